@@ -1,0 +1,3 @@
+-- Facts that several crates' proofs share. They assume nothing.
+pub mod Tests
+pub mod Runs

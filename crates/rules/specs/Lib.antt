@@ -1,0 +1,7 @@
+-- Document 01 as definitions, a file for each of its sections. They mention no code.
+pub mod Bytes
+pub mod Utf8
+pub mod Space
+pub mod Tokens
+pub mod Integers
+pub mod Instructions
