@@ -5,3 +5,9 @@ pub mod Space
 pub mod Tokens
 pub mod Integers
 pub mod Instructions
+pub mod Keywords
+pub mod Faults
+pub mod Rows
+pub mod World
+pub mod Reading
+pub mod Answers

@@ -1,4 +1,5 @@
 // The words that the definitions of specs/ and the code share. Types and constants alone: document 01's rules themselves stand in specs/.
+pub mod fault;
 pub mod keyword;
 pub mod kind;
 
@@ -41,4 +42,94 @@ pub enum Lexed {
     Found(Token),
     End,
     Refused(usize),
+}
+
+// A token as the reader keeps it, in the 32 bits of a row's word: its kind, 0 for no token, its first byte and the byte past its last.
+pub struct Spot {
+    pub kind: u8,
+    pub first: u32,
+    pub past: u32,
+}
+
+// From the first up to the one past the last: bytes of the text, or rows of a table.
+pub struct Span {
+    pub first: u32,
+    pub past: u32,
+}
+
+// 128 bits as four words, the highest first.
+pub struct Words {
+    pub a: u32,
+    pub b: u32,
+    pub c: u32,
+    pub d: u32,
+}
+
+// The four rows, as docs/LAYOUT.md has them.
+pub struct Item {
+    pub kind: u32,
+    pub statements: Span,
+    pub middle: u32,
+    pub infer: u32,
+    pub operands: Span,
+    pub attributes: Span,
+}
+
+pub struct Statement {
+    pub code: u32,
+    pub name: Span,
+    pub width: u32,
+    pub number: u32,
+    pub block: u32,
+    pub operands: Span,
+    pub attributes: Span,
+}
+
+pub struct Operand {
+    pub code: u32,
+    pub row: u32,
+    pub width: u32,
+    pub bits: Words,
+}
+
+pub struct Attribute {
+    pub code: u32,
+    pub pattern: Span,
+    pub low: Words,
+    pub high: Words,
+}
+
+// A statement's row, or that there is none.
+pub enum Row {
+    At(u32),
+    Missing,
+}
+
+// What a right side says, but for its operands.
+pub struct Side {
+    pub code: u32,
+    pub number: u32,
+    pub block: u32,
+}
+
+// The three entry points.
+pub enum Entry {
+    Replacements,
+    LeftHandSides,
+    RightHandSides,
+}
+
+// What a public call answers: how many rows of each table a read left, how many bytes a print wrote, or a number of document 01's table with its place.
+pub enum Answer {
+    Read {
+        items: u32,
+        statements: u32,
+        operands: u32,
+        attributes: u32,
+    },
+    Printed(u64),
+    Refused {
+        number: u32,
+        place: u64,
+    },
 }
