@@ -1,0 +1,2 @@
+-- Facts that the proofs of several functions share. They assume nothing.
+pub mod Rows
