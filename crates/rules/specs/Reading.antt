@@ -299,10 +299,10 @@ openParenAhead = do
   give (eqb (t .kind) kind.openParen)
 
 unfoldable pub attributes : P (Unit {0})
-attributes = many openParenAhead attribute
+attributes = many (λ t. t .attributes) openParenAhead attribute
 
 unfoldable pub rootAttributes : P (Unit {0})
-rootAttributes = many openParenAhead rootAttribute
+rootAttributes = many (λ t. t .attributes) openParenAhead rootAttribute
 
 -- Right sides
 
@@ -427,7 +427,7 @@ statement = do
   cond (eqb (t .kind) kind.valName) assignment (cond (eqb k keyword.pc) pc blockpc)
 
 unfoldable pub statements : P (Unit {0})
-statements = many statementAhead statement
+statements = many (λ t. t .statements) statementAhead statement
 
 -- Items
 
@@ -521,4 +521,4 @@ itemAhead = do
 
 -- items up to the end of the text
 unfoldable pub items : Entry → P (Unit {0})
-items e = many itemAhead (itemOf e)
+items e = many (λ t. t .items) itemAhead (itemOf e)

@@ -4,7 +4,6 @@ use Prim.Native.Nat.{ℕ, zero, suc, _+_}
 use mathlib.Core.Bool.{Bool, cond}
 use mathlib.Core.List.{List, [], _∷_, _++_}
 use lib.Dec.{ltb}
-use lib.ListN.{length}
 use Rattle.rules.specs.declared.Spot.{Spot}
 use Rattle.rules.specs.declared.Item.{Item}
 use Rattle.rules.specs.declared.Statement.{Statement}
@@ -138,6 +137,6 @@ repeated (suc fuel) peek rule = do
     rule
     repeated fuel peek rule) (give tt)
 
--- each turn takes a byte at least, so one more than there are bytes are enough
-unfoldable pub many : P Bool → P (Unit {0}) → P (Unit {0})
-many peek rule w = repeated (suc (length (w .text))) peek rule w
+-- each turn claims a row of a table, so one turn more than the table has room for is enough
+unfoldable pub many : (Tables → Table) → P Bool → P (Unit {0}) → P (Unit {0})
+many of peek rule w = repeated (suc (of (w .tables) .cap)) peek rule w
