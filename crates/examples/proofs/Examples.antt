@@ -81,11 +81,11 @@ unfolding answerOf reading readChecked outcome start faultNumber
     integers.integer integers.typeWidth integers.digits integers.decimal
     instructions.instructionOf instructions.arityOf instructions.instructionName instructions.keywordOf
     itemWords statementWords operandWords attributeWords statementAt nameAt
-    world.claimItem world.claimStatement world.claimOperand world.claimAttribute world.repeated world.many
+    world.claimItem world.claimStatement world.claimOperand world.claimAttribute world.asks world.repeated world.many
     reading.seen reading.lookahead reading.token reading.expect reading.keywordAt reading.lookaheadIdent reading.ident reading.valued reading.int reading.intField reading.type reading.typeIfAny
     reading.findRow reading.inScope reading.known reading.fresh reading.blockAt reading.value reading.newName reading.block
-    reading.constant reading.operand reading.furtherOperands reading.operands
-    reading.known-bits reading.flag reading.signBits reading.range reading.attributeInner reading.attribute reading.demandedBits reading.rootAttribute reading.openParenAhead reading.attributes reading.rootAttributes
+    reading.constant reading.named reading.operand reading.furtherOperands reading.operands
+    reading.closeAttribute reading.flag reading.signBits reading.range reading.attributeInner reading.attribute reading.demandedBits reading.rootAttribute reading.openParenAhead reading.attributes reading.rootAttributes
     reading.plainSide reading.blockSide reading.phiSide reading.instructionSide reading.instructionAt reading.sideOf reading.assignmentRhs
     reading.assignment reading.condition reading.pc reading.blockpc reading.statementAhead reading.statement reading.statements
     reading.closeItem reading.infer reading.result reading.cand reading.inferAndResult reading.replacement reading.leftSide reading.rightSide reading.itemOf reading.itemAhead reading.items

@@ -1,6 +1,6 @@
 -- What a definition counts at the front of a text lies within the text.
 -- Assumes nothing.
-use Prim.Native.Nat.{ℕ, zero, suc, _≤_, zero-le}
+use Prim.Native.Nat.{ℕ, _≤_, zero-le}
 use native.Mathlib.Omega.{arith}
 use mathlib.Core.Path.{_≡_, refl}
 use mathlib.Core.Bool.{Bool, true, false, cond, false≢true}
@@ -25,6 +25,7 @@ pub longest-le : (rows : List (List Range)) (s : List ℕ) → longest rows s �
 longest-le [] s = zero-le
 longest-le (r ∷ rows) s = choice-le (lies r s) (lies-le r s) (longest-le rows s)
 
+-- the sequence at the front of a text
 pub seqLen-le : (s : List ℕ) → seqLen s ≤ length s
 unfolding seqLen
 seqLen-le s = longest-le sequences s

@@ -11,3 +11,8 @@ pub mod Rows
 pub mod World
 pub mod Reading
 pub mod Answers
+pub mod Out
+pub mod Syntax
+pub mod Meaning
+pub mod Listing
+pub mod Printing

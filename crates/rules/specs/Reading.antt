@@ -54,14 +54,14 @@ abbrev pub taken : Spot → P Spot
 taken t w = go t (standing (record { at = w .stand .at; ahead = nothing; last = t }) w)
 
 -- the text's last byte, 0 for the empty text
-abbrev pub lastByte : World → Spot
-lastByte w = record { kind = 0; first = length (w .text) - 1; past = length (w .text) - 1 }
+abbrev pub lastByte : List ℕ → Spot
+lastByte text = record { kind = 0; first = length text - 1; past = length text - 1 }
 
 -- the next token, taken; where none is left the fault is at the text's last byte
 unfoldable pub token : P Spot
 token = do
   t ← lookahead
-  cond (eqb (t .kind) 0) (λ w. stop fault.end (lastByte w)) (taken t)
+  cond (eqb (t .kind) 0) (λ w. stop fault.end (lastByte (w .text))) (taken t)
 
 -- a token of a kind
 unfoldable pub expect : ℕ → P Spot
@@ -180,13 +180,15 @@ constant = do
   width ← typeIfAny
   claimOperand (record { code = constantCode; row = 0; width = width; bits = wordsOf n })
 
+unfoldable pub named : P (Unit {0})
+named = do
+  r ← value
+  claimOperand (record { code = valueCode; row = r; width = 0; bits = wordsOf 0 })
+
 unfoldable pub operand : P (Unit {0})
 operand = do
   t ← lookahead
-  cond (eqb (t .kind) kind.valName) (do
-    r ← value
-    claimOperand (record { code = valueCode; row = r; width = 0; bits = wordsOf 0 }))
-      constant
+  cond (eqb (t .kind) kind.valName) named constant
 
 -- n operands, each behind a comma
 unfoldable pub furtherOperands : ℕ → P (Unit {0})
@@ -217,22 +219,21 @@ attributeCode k = k - 8
 abbrev pub patternOf : Spot → Span
 patternOf t = min (t .first + 10) (t .past) upTo t .past
 
-unfoldable pub known-bits : Spot → P (Unit {0})
-known-bits t = do
+-- ')' and the row
+unfoldable pub closeAttribute : Attribute → P (Unit {0})
+closeAttribute r = do
   expect kind.closeParen
-  claimAttribute (attributeRow knownBitsCode (patternOf t) 0 0)
+  claimAttribute r
 
+-- an attribute that is a keyword alone
 unfoldable pub flag : ℕ → P (Unit {0})
-flag k = do
-  expect kind.closeParen
-  claimAttribute (attributeRow (attributeCode k) (0 upTo 0) 0 0)
+flag k = closeAttribute (attributeRow (attributeCode k) (0 upTo 0) 0 0)
 
 unfoldable pub signBits : P (Unit {0})
 signBits = do
   expect kind.equals
   n ← intField 8
-  expect kind.closeParen
-  claimAttribute (attributeRow signBitsCode (0 upTo 0) n 0)
+  closeAttribute (attributeRow signBitsCode (0 upTo 0) n 0)
 
 unfoldable pub range : P (Unit {0})
 range = do
@@ -242,8 +243,7 @@ range = do
   expect kind.comma
   high ← int
   expect kind.closeParen
-  expect kind.closeParen
-  claimAttribute (attributeRow rangeCode (0 upTo 0) low high)
+  closeAttribute (attributeRow rangeCode (0 upTo 0) low high)
 
 -- powerOfTwo, negative, nonNegative, nonZero and hasExternalUses
 abbrev pub isFlag : ℕ → Bool
@@ -252,7 +252,7 @@ isFlag k = leb keyword.powerOfTwo k && leb k keyword.hasExternalUses
 -- what stands behind '('
 unfoldable pub attributeInner : Spot → ℕ → P (Unit {0})
 attributeInner t k =
-    cond (eqb (t .kind) kind.knownBits) (known-bits t)
+    cond (eqb (t .kind) kind.knownBits) (closeAttribute (attributeRow knownBitsCode (patternOf t) 0 0))
     (cond (isFlag k) (flag k)
     (cond (eqb k keyword.signBits) signBits
     (cond (eqb k keyword.range) range
@@ -278,10 +278,7 @@ demandedBits = do
   expect kind.equals
   t ← expect kind.int
   good ← asks (λ w. allBits (letters (w .text) t))
-  cond good (do
-    expect kind.closeParen
-    claimAttribute (attributeRow demandedBitsCode (t .first upTo t .past) 0 0))
-      (refuse fault.token t)
+  cond good (closeAttribute (attributeRow demandedBitsCode (t .first upTo t .past) 0 0)) (refuse fault.token t)
 
 unfoldable pub rootAttribute : P (Unit {0})
 rootAttribute = do
@@ -382,9 +379,9 @@ assignment = do
         attributes = a upTo e;
       })
 
--- a condition's row: two operands, no name, no attribute
+-- two operands, and a condition's row: no name, no attribute
 unfoldable pub condition : ℕ → ℕ → ℕ → P (Unit {0})
-condition k n b = do
+condition code n b = do
   o ← operandCount
   operand
   operand
@@ -392,7 +389,7 @@ condition k n b = do
   a ← attributeCount
   claimStatement
       (record {
-        code = keywordCode k;
+        code = code;
         name = 0 upTo 0;
         width = 0;
         number = n;
@@ -404,14 +401,14 @@ condition k n b = do
 unfoldable pub pc : P (Unit {0})
 pc = do
   token
-  condition keyword.pc 0 0
+  condition (keywordCode keyword.pc) 0 0
 
 unfoldable pub blockpc : P (Unit {0})
 blockpc = do
   token
   b ← block
   n ← intField 32
-  condition keyword.blockpc n b
+  condition (keywordCode keyword.blockpc) n b
 
 -- whether a statement comes next
 unfoldable pub statementAhead : P Bool

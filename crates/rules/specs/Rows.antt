@@ -82,12 +82,18 @@ abbrev pub _upTo_ : ℕ → ℕ → Span
 first upTo past = record { first = first; past = past }
 
 infix 80 _upTo_
--- a number below 2^128 as four words, and back
+-- a number below 2^128 as four words, half by half, and back
 abbrev pub wordsOf : ℕ → Words
-wordsOf n = record { a = n / 2 ^ 96; b = n / 2 ^ 64 % 2 ^ 32; c = n / 2 ^ 32 % 2 ^ 32; d = n % 2 ^ 32 }
+wordsOf n =
+    record {
+      a = n / 2 ^ 64 / 2 ^ 32;
+      b = n / 2 ^ 64 % 2 ^ 32;
+      c = n % 2 ^ 64 / 2 ^ 32;
+      d = n % 2 ^ 64 % 2 ^ 32;
+    }
 
 abbrev pub bitsOf : Words → ℕ
-bitsOf w = ((w .a * 2 ^ 32 + w .b) * 2 ^ 32 + w .c) * 2 ^ 32 + w .d
+bitsOf w = (w .a * 2 ^ 32 + w .b) * 2 ^ 64 + (w .c * 2 ^ 32 + w .d)
 
 -- the words of a row
 unfoldable pub itemWords : Item → List ℕ

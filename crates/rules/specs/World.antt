@@ -65,7 +65,7 @@ abbrev pub refuse : {A : Type 0} → ℕ → Spot → P A
 refuse n t w = stop n t
 
 -- what can be seen of the world
-abbrev pub asks : {A : Type 0} → (World → A) → P A
+unfoldable pub asks : {A : Type 0} → (World → A) → P A
 asks f w = go (f w) w
 
 -- the world with the reader standing elsewhere, with other tables, and with another scope

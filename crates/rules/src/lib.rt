@@ -1,4 +1,5 @@
 // The words that the definitions of specs/ and the code share. Types and constants alone: document 01's rules themselves stand in specs/.
+pub mod code;
 pub mod fault;
 pub mod keyword;
 pub mod kind;

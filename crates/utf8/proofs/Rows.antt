@@ -1,38 +1,22 @@
 -- Table 3-7 read as the code reads it: the first byte alone picks the row, since the rows' first bytes stand in order; then one byte after the other is looked at.
 -- Assumes nothing.
-use Prim.Native.Nat.{ℕ, zero, suc, _+_, _≤_, _<_}
+use Prim.Native.Nat.{ℕ, suc, _+_, _≤_, _<_}
 use native.Mathlib.Nat.{lt-of-lt-of-le, lt-of-le-of-lt}
 use native.Mathlib.Numerals.{add-one}
 use native.Mathlib.Omega.{arith}
-use mathlib.Core.Path.{_≡_, refl, sym, ap, _∙_}
+use mathlib.Core.Path.{_≡_, refl, ap, _∙_}
 use mathlib.Core.Bool.{Bool, true, false, cond, false≢true, _&&_}
 use mathlib.Core.List.{List, [], _∷_, _++_}
-use lib.Dec.{leb, ltb}
+use lib.Dec.{ltb}
 use lib.ListN.{length, getD, drop, take, length-drop}
 use lib.Seq.{drop-cons}
-use borrow.Author.Tests.{ltb-true, le-leb, lt-leb}
+use borrow.Author.Tests.{ltb-true}
 use Rattle.rules.specs.declared.Range.{Range}
 use Rattle.rules.specs.Bytes.{inside}
 use Rattle.rules.specs.Utf8.{_to_, sequences, lies, longest, seqLen}
 use Rattle.laws.proofs.Tests.{and-left, and-right}
+use Rattle.laws.proofs.Ranges.{inside-yes, inside-under, inside-over}
 use Rattle.laws.proofs.Within.{lies-le}
-
-second-no : (t : Bool) {u : Bool} → u ≡ false → (t && u) ≡ false
-second-no true e = e
-second-no false e = refl
-
-module _ (lo hi b : ℕ) where
-  inside-yes : lo ≤ b → b ≤ hi → inside lo hi b ≡ true
-  unfolding inside
-  inside-yes h k = rw (le-leb lo b h, le-leb b hi k)
-
-  inside-under : b < lo → inside lo hi b ≡ false
-  unfolding inside
-  inside-under h = rw (lt-leb lo b h)
-
-  inside-over : hi < b → inside lo hi b ≡ false
-  unfolding inside
-  inside-over h = second-no (leb lo b) (lt-leb b hi h)
 
 -- the first bytes of all the rows are less than a number, or greater
 abbrev less : ℕ → List (List Range) → Bool
@@ -46,6 +30,7 @@ greater m ([] ∷ rows) = false
 greater m ((r ∷ rs) ∷ rows) = ltb m (r .lo) && greater m rows
 
 module _ (b : ℕ) (s : List ℕ) where
+  -- rows of lesser first bytes are passed over; rows of greater ones have nothing
   skip : (m : ℕ) (rows more : List (List Range)) → less m rows ≡ true → m ≤ b → longest (rows ++ more) (b ∷ s) ≡ longest more (b ∷ s)
   skip m [] more e h = refl
   skip m ([] ∷ rows) more e h = absurd (false≢true e)
@@ -65,7 +50,15 @@ module _ (s : List ℕ) (h : 1 ≤ length s) where
   parted = drop-cons s 0 0 h
 
 -- the first byte is from lo to hi, the first range of row k: only that row is asked
-pub in-row : (k lo hi : ℕ) (rs : List Range) (s : List ℕ) → sequences ≡ take k sequences ++ ((lo to hi ∷ rs) ∷ drop (suc k) sequences) → less lo (take k sequences) ≡ true → greater hi (drop (suc k) sequences) ≡ true → 1 ≤ length s → lo ≤ getD s 0 0 → getD s 0 0 ≤ hi → seqLen s ≡ cond (lies rs (drop 1 s)) (suc (length rs)) 0
+pub in-row :
+    (k lo hi : ℕ) (rs : List Range) (s : List ℕ)
+    → sequences ≡ take k sequences ++ ((lo to hi ∷ rs) ∷ drop (suc k) sequences)
+    → less lo (take k sequences) ≡ true
+    → greater hi (drop (suc k) sequences) ≡ true
+    → 1 ≤ length s
+    → lo ≤ getD s 0 0
+    → getD s 0 0 ≤ hi
+    → seqLen s ≡ cond (lies rs (drop 1 s)) (suc (length rs)) 0
 unfolding seqLen
 in-row k lo hi rs s e l g h a z =
     let b = getD s 0 0 in
@@ -77,7 +70,15 @@ in-row k lo hi rs s e l g h a z =
     ∙ rw (inside-yes lo hi b a z, none b t hi rows g z)
 
 -- the first byte is from lo to hi, between the first k rows and the others: no row has it
-pub in-no-row : (k lo hi : ℕ) (s : List ℕ) → sequences ≡ take k sequences ++ drop k sequences → less lo (take k sequences) ≡ true → greater hi (drop k sequences) ≡ true → 1 ≤ length s → lo ≤ getD s 0 0 → getD s 0 0 ≤ hi → seqLen s ≡ 0
+pub in-no-row :
+    (k lo hi : ℕ) (s : List ℕ)
+    → sequences ≡ take k sequences ++ drop k sequences
+    → less lo (take k sequences) ≡ true
+    → greater hi (drop k sequences) ≡ true
+    → 1 ≤ length s
+    → lo ≤ getD s 0 0
+    → getD s 0 0 ≤ hi
+    → seqLen s ≡ 0
 unfolding seqLen
 in-no-row k lo hi s e l g h a z =
     let b = getD s 0 0 in

@@ -1,0 +1,197 @@
+//! Compares the crate, the model and, where it is linked, the proved library on many texts.
+use crate::answer::*;
+use crate::{damage, generate, library, model, oracle, ours, printing, random::Random, settled, short};
+use std::panic::{catch_unwind, AssertUnwindSafe};
+
+/// How many differences are shown.
+const SHOWN: u64 = 20;
+
+/// How many texts are compared, and from which seed they are made.
+pub struct Plan {
+    pub texts: u64,
+    pub seed: u64,
+    /// Tokens of the longest of the texts that are tried exhaustively.
+    pub tokens: usize,
+}
+
+/// What has been compared so far.
+#[derive(Default)]
+pub struct Tally {
+    pub texts: u64,
+    pub by_number: [[u64; NUMBERS]; 3],
+    pub claims: u64,
+    pub differences: u64,
+}
+
+/// Compares all texts of a plan; answers how many readings differ.
+pub fn run(plan: &Plan) -> u64 {
+    std::panic::set_hook(Box::new(|_| {}));
+    let mut tally = Tally::default();
+    tally.stage("settled examples", settled_texts);
+    tally.stage("long texts", long_texts);
+    tally.stage("short texts of bytes", |tally| short::byte_texts(&mut vec![], 4, &mut |text| tally.compare(text)));
+    tally.stage("short texts of tokens", |tally| short::token_texts(plan.tokens, &mut |text| tally.compare(text)));
+    tally.stage("texts by the grammar, whole and damaged", |tally| random_texts(plan, tally));
+    tally.show();
+    tally.differences
+}
+
+fn settled_texts(tally: &mut Tally) {
+    for (_, text, _, _) in settled::EXAMPLES.iter().chain(&settled::TRAPS) {
+        tally.compare(text.as_bytes());
+        every_cut(text.as_bytes(), tally);
+    }
+    tally.compare(settled::WHOLE.as_bytes());
+    every_cut(settled::WHOLE.as_bytes(), tally);
+}
+
+/// Texts of about the longest length that is read, plain and at its worst.
+fn long_texts(tally: &mut Tally) {
+    let mut random = Random::new(1);
+    for length in [LONGEST - 1, LONGEST, LONGEST + 1] {
+        for filler in [&b" "[..], b";", b"(", b"%", b"a", b"0", b"-", b"\n", b"\xC2\x85", b"\xFF", b"%a=var "] {
+            let mut text = filler.repeat(length / filler.len() + 1);
+            text.truncate(length);
+            tally.compare(&text);
+            for end in [&b"%"[..], b"knownBits", b"cand 1 1", b"\n%a", b"\xE2\x80", b" 1"] {
+                text.truncate(length - end.len());
+                text.extend_from_slice(end);
+                tally.compare(&text);
+            }
+        }
+        for statements in [3..31, 100_000..100_001] {
+            let mut text = generate::long_text(&mut random, length, statements);
+            tally.compare(&text);
+            text.resize(length, b' ');
+            tally.compare(&text);
+        }
+        tally.compare(&phi_of_every_byte(length));
+        tally.compare(&[b"cand 1:i".to_vec(), vec![b'0'; length - 11], b"8 1".to_vec()].concat());
+        tally.compare(&[b"cand -".to_vec(), vec![b'0'; length - 9], b"7 1".to_vec()].concat());
+        tally.compare(&[b"cand 1 1".to_vec(), b"(harvestedFromUse)".repeat((length - 8) / 18)].concat());
+    }
+}
+
+/// A phi of a block with as many predecessors as operands of two bytes fit a text.
+fn phi_of_every_byte(length: usize) -> Vec<u8> {
+    let operands = (length - 40) / 2;
+    let mut text = format!("%a=block {} %b=phi %a", operands).into_bytes();
+    text.extend(b",0".repeat(operands));
+    text.extend_from_slice(b"cand %b 1");
+    text
+}
+
+fn every_cut(text: &[u8], tally: &mut Tally) {
+    for at in 0..text.len() {
+        tally.compare(&text[..at]);
+        tally.compare(&text[at..]);
+    }
+}
+
+fn random_texts(plan: &Plan, tally: &mut Tally) {
+    let mut random = Random::new(plan.seed);
+    let end = tally.texts + plan.texts;
+    while tally.texts < end {
+        let entry = random.one(&ENTRIES);
+        let slips = random.one(&[0, 0, 0, 3, 10, 40]);
+        let mut text = generate::text(&mut random, entry, slips);
+        if random.chance(500) {
+            for _ in 0..1 + random.below(3) {
+                damage::damage(&mut random, &mut text);
+            }
+        }
+        tally.compare(&text);
+        if text.len() < 300 && random.chance(2) {
+            every_cut(&text, tally);
+        }
+    }
+}
+
+impl Tally {
+    fn stage(&mut self, name: &str, texts: impl FnOnce(&mut Tally)) {
+        let before = self.texts;
+        texts(self);
+        println!("{:>10} {}", self.texts - before, name);
+    }
+
+    /// Compares a text at each entry point.
+    pub fn compare(&mut self, text: &[u8]) {
+        self.texts += 1;
+        for entry in ENTRIES {
+            let reading = model::read(entry, text);
+            self.claims += reading.claims.len() as u64;
+            if let Some(difference) = difference(entry, text, &reading) {
+                self.differences += 1;
+                if self.differences <= SHOWN {
+                    show_difference(entry, text, &difference);
+                }
+            }
+            let number = (reading.end.number as usize).min(NUMBERS - 1);
+            self.by_number[ENTRIES.iter().position(|one| *one == entry).unwrap()][number] += 1;
+        }
+    }
+
+    fn show(&self) {
+        println!("\n{} texts, each at three entry points, {} claims; answers by number:", self.texts, self.claims);
+        println!("     {}", (0..NUMBERS - 1).map(|number| format!("{:>11}", number)).collect::<String>());
+        for (entry, counts) in ENTRIES.iter().zip(&self.by_number) {
+            let columns = counts[..NUMBERS - 1].iter().map(|count| format!("{:>11}", count)).collect::<String>();
+            println!("    {}{}", entry.letter(), columns);
+        }
+        let linked = match (library::READS, library::PRINTS) {
+            (false, _) => "crate and model; the library is not linked",
+            (true, false) => "crate, model and the library's readers",
+            (true, true) => "crate, model and the library",
+        };
+        println!("compared: {}\ndifferences: {}", linked, self.differences);
+    }
+}
+
+/// How the readings of a text differ, if they do.
+pub fn difference(entry: Entry, text: &[u8], reading: &model::Reading) -> Option<String> {
+    let Ok(said) = catch_unwind(AssertUnwindSafe(|| oracle::read(entry, text))) else {
+        return Some("the crate panics".to_string());
+    };
+    if said.answer != reading.end {
+        return Some(format!("crate {:?}, model {:?}", said.answer, reading.end));
+    }
+    if reading.claimed().iter().any(|rows| *rows > text.len() as u64) {
+        return Some(format!("{:?} rows claimed by {} bytes", reading.claimed(), text.len()));
+    }
+    if said.answer.number == ACCEPTED {
+        if printing::print(&reading.items) != said.print.as_bytes() {
+            return Some(format!("the crate prints {:?}", said.print));
+        }
+        if said.print.len() <= LONGEST && oracle::read(entry, said.print.as_bytes()).print != said.print {
+            return Some(format!("the crate's print {:?} is not printed alike when it is read", said.print));
+        }
+    }
+    ours::wrong(entry, text, reading, said.print.as_bytes())
+}
+
+fn show_difference(entry: Entry, text: &[u8], difference: &str) {
+    let small = smallest(entry, text);
+    println!("{} {:?}: {}", entry.letter(), String::from_utf8_lossy(&small), difference);
+    if small != text {
+        let reading = model::read(entry, &small);
+        println!("    smallest: {}", self::difference(entry, &small, &reading).unwrap());
+    }
+}
+
+/// A text that differs too, of which no byte can be left out.
+fn smallest(entry: Entry, text: &[u8]) -> Vec<u8> {
+    let mut small = text.to_vec();
+    let mut at = 0;
+    while at < small.len() && text.len() < 2000 {
+        let mut shorter = small.clone();
+        shorter.remove(at);
+        let reading = model::read(entry, &shorter);
+        if self::difference(entry, &shorter, &reading).is_some() {
+            small = shorter;
+            at = 0;
+        } else {
+            at += 1;
+        }
+    }
+    small
+}

@@ -1,0 +1,2 @@
+-- How the code reads its table.
+pub mod Table

@@ -1,0 +1,130 @@
+// The words that a text can hold: the instructions, by a constant table of their names and arities, and the other keywords.
+// How a word is looked for shows nowhere outside.
+mod table;
+
+use rules::keyword;
+use table::INSTRUCTIONS;
+ghost use mathlib.Core.Path.{_≡_};
+ghost use Prim.Native.Nat.{_+_, _*_, _≤_};
+ghost use lib.ListN.{length, drop};
+ghost use Rattle.rules.specs.Out.{Wrote};
+ghost use Rattle.rules.specs.Instructions.{instructionOf, arityOf, instructionName, placeOf, keywords, keywordOf};
+ghost use Rattle.instructions.specs.Table.{lenAt, nameAt};
+
+// The instruction that w names, by its place in the table; 59 where w names none.
+pub fn instruction(w: &[u8]) -> usize
+    ensures { λ r. ⌜ r ≡ instructionOf (now (w .entry)) ⌝ }
+{
+    let table = INSTRUCTIONS;
+    let mut k = 0;
+    while k < 59 {
+        if scan::same(w, name(&table, k)) {
+            return k;
+        }
+        k += 1;
+    }
+    k
+}
+
+// The name in row k of a table.
+fn name(table: &[u8], k: usize) -> &[u8]
+    requires { ⌜ 20 * k + 20 ≤ length (now table) ⌝ }
+    requires { ⌜ lenAt (now table) k ≤ 18 ⌝ }
+    ensures { λ r. ⌜ now r ≡ nameAt (now (table .entry)) k ⌝ }
+{
+    let row = 20 * k;
+    let len = table[row + 18] as usize;
+    &table[row..row + len]
+}
+
+// How many operands instruction k takes; 0 past the table.
+pub fn arity(k: usize) -> usize
+    ensures { λ r. ⌜ r ≡ arityOf k ⌝ }
+{
+    if k < 59 {
+        return INSTRUCTIONS[20 * k + 19] as usize;
+    }
+    0
+}
+
+// Writes the name of instruction k at the front of an output that has room for it, and answers the name's length; 0 past the table.
+pub fn put_instruction(k: usize, out: &mut [u8]) -> usize
+    ensures { λ r. ⌜ Wrote (instructionName k) (now (out .entry)) (now (out .exit)) r ⌝ }
+{
+    if 59 <= k {
+        return 0;
+    }
+    let table = INSTRUCTIONS;
+    output::put(name(&table, k), out)
+}
+
+// The keyword that w is, by its number; `keyword::OTHER` where w is none.
+pub fn keyword(w: &[u8]) -> u8
+    ensures { λ r. ⌜ r ≡ keywordOf (now (w .entry)) ⌝ }
+{
+    if scan::same(w, b"var") {
+        return keyword::VAR;
+    }
+    if scan::same(w, b"block") {
+        return keyword::BLOCK;
+    }
+    if scan::same(w, b"phi") {
+        return keyword::PHI;
+    }
+    if scan::same(w, b"reservedinst") {
+        return keyword::RESERVEDINST;
+    }
+    if scan::same(w, b"reservedconst") {
+        return keyword::RESERVEDCONST;
+    }
+    if scan::same(w, b"pc") {
+        return keyword::PC;
+    }
+    if scan::same(w, b"blockpc") {
+        return keyword::BLOCKPC;
+    }
+    if scan::same(w, b"infer") {
+        return keyword::INFER;
+    }
+    if scan::same(w, b"result") {
+        return keyword::RESULT;
+    }
+    if scan::same(w, b"cand") {
+        return keyword::CAND;
+    }
+    attribute(w)
+}
+
+// The same, of the words of attributes alone, which are the keywords from number 10 on.
+fn attribute(w: &[u8]) -> u8
+    ensures { λ r. ⌜ r ≡ 10 + placeOf (now (w .entry)) (drop 10 keywords) ⌝ }
+{
+    if scan::same(w, b"powerOfTwo") {
+        return keyword::POWER_OF_TWO;
+    }
+    if scan::same(w, b"negative") {
+        return keyword::NEGATIVE;
+    }
+    if scan::same(w, b"nonNegative") {
+        return keyword::NON_NEGATIVE;
+    }
+    if scan::same(w, b"nonZero") {
+        return keyword::NON_ZERO;
+    }
+    if scan::same(w, b"hasExternalUses") {
+        return keyword::HAS_EXTERNAL_USES;
+    }
+    if scan::same(w, b"signBits") {
+        return keyword::SIGN_BITS;
+    }
+    if scan::same(w, b"range") {
+        return keyword::RANGE;
+    }
+    if scan::same(w, b"demandedBits") {
+        return keyword::DEMANDED_BITS;
+    }
+    if scan::same(w, b"harvestedFromUse") {
+        return keyword::HARVESTED_FROM_USE;
+    }
+    keyword::OTHER
+}

@@ -1,0 +1,3 @@
+pub mod Values
+-- What the proofs share.
+pub mod Scope

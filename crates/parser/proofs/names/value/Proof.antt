@@ -1,0 +1,53 @@
+-- `parser::names::value` meets its contract.
+-- Assumes nothing.
+use borrow.Author.Needs.{needs}
+use Rattle.rules.specs.Reading as R
+use Rattle.tables.proofs.Chains as chain
+use Rattle.tables.proofs.Steps as step
+use Rattle.parser.proofs.Scope.{answered}
+use Rattle.parser.proofs.names.value.Statement.{statement}
+use Rattle.parser.proofs.names.value.Tie as tie
+
+expect-requires : tie.Need-expect-requires
+expect-requires c κs = search needs
+
+in-scope-requires : tie.Need-in-scope-requires
+in-scope-requires c κs = search needs
+
+enum-known-r : tie.Need-enum-known-r
+enum-known-r c = search needs
+
+enum-told : tie.Need-enum-told
+enum-told c = search needs
+
+refuse-requires : tie.Need-refuse-requires
+refuse-requires c κs = search needs
+
+returns : tie.Need-returns
+unfolding R.value R.known
+returns c I O A =
+    let d = c .before .before .before in
+    let S = d .before .before .before .before .before .args .statements .now in
+    chain.then _ _ _ _ _ _ _ _ _ _ _ (d .before .before .expect .ensures I S O A)
+    (answered _ _ I S O A _ R.known _ (d .in-scope .ensures I O A) (c .before .r .given .1) (chain.given _ _ I S O A _))
+
+returns-2 : tie.Need-returns-2
+unfolding R.value R.known
+returns-2 c I O A =
+    let d = c .before .before .before in
+    let S = d .before .before .before .before .before .args .statements .now in
+    chain.then _ _ _ _ _ _ _ _ _ _ _ (d .before .before .expect .ensures I S O A)
+    (answered _ _ I S O A _ R.known _ (d .in-scope .ensures I O A) (c .before .enum-told .given .1)
+    (step.refused _ _ I S O A _ _ _ _ (c .refuse .ensures _ I S O A)))
+
+pub value-spec : {M : Type 1} → statement M
+value-spec =
+    tie.close
+    (tie.spec
+    expect-requires
+    in-scope-requires
+    enum-known-r
+    enum-told
+    refuse-requires
+    returns
+    returns-2)

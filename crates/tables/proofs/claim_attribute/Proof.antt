@@ -1,0 +1,61 @@
+-- `tables::claim_attribute` meets its contract.
+-- Assumes nothing.
+use mathlib.Core.Path.{refl, sym, _∙_}
+use native.Mathlib.Omega.{arith}
+use borrow.Author.Needs.{needs}
+use Rattle.rules.specs.Rows.{attributeWords}
+use Rattle.rules.specs.World.{claimAttribute}
+use Rattle.tables.specs.Stands.{world}
+use Rattle.tables.proofs.Steps.{halts}
+use Rattle.tables.proofs.Claims.{few, claimed, unclaimed}
+use Rattle.tables.proofs.claim_attribute.Statement.{statement}
+use Rattle.tables.proofs.claim_attribute.Tie as tie
+
+returns : tie.Need-returns
+returns c text I S O = halts _ _ _ _ _ _ _ tt (c .if1 .taken)
+
+slice-aggregate-claim-row : tie.Need-slice-aggregate-claim-row
+slice-aggregate-claim-row c = search needs
+
+claim-row-requires : tie.Need-claim-row-requires
+claim-row-requires c κs = search needs
+
+add-t : tie.Need-add-t
+add-t c = omega (arith, few (c .before .before .before .claim-row .ensures) (c .if2 .taken))
+
+same-length : tie.Need-same-length
+same-length c = search needs
+
+returns-2 : tie.Need-returns-2
+unfolding claimAttribute attributeWords world
+returns-2 c text I S O =
+    let w = c .before .before .before .claim-row .ensures in
+    let f = c .before .before .before .before .before .before .if1 .left in
+    claimed _ _ _ _ _ _ _ _ _ _ _ _ _ _ f refl (sym (w .room) ∙ c .if2 .taken) f (simp (w .words (c .if2 .taken), w .long))
+
+refuse-requires : tie.Need-refuse-requires
+refuse-requires c κs = search needs
+
+same-length-2 : tie.Need-same-length-2
+same-length-2 c = search needs
+
+returns-3 : tie.Need-returns-3
+unfolding claimAttribute attributeWords world
+returns-3 c text I S O =
+    let w = c .before .before .before .before .before .claim-row .ensures in
+    let f = c .before .before .before .before .before .before .before .before .if1 .left in
+    unclaimed _ _ _ _ _ _ _ _ _ _ _ _ _ _ f refl (sym (w .room) ∙ c .before .before .if2 .left) (c .refuse .ensures _ _ _ _ _)
+
+pub claim-attribute-spec : {M : Type 1} → statement M
+claim-attribute-spec =
+    tie.close
+    (tie.spec
+    returns
+    slice-aggregate-claim-row
+    claim-row-requires
+    add-t
+    same-length
+    returns-2
+    refuse-requires
+    same-length-2
+    returns-3)

@@ -1,0 +1,22 @@
+-- `tables::number_at` meets its contract.
+-- Assumes nothing.
+use borrow.Author.Needs.{needs}
+use Rattle.rules.specs.Rows.{statementAt}
+use Rattle.tables.proofs.number_at.Statement.{statement}
+use Rattle.tables.proofs.number_at.Tie as tie
+
+mul-word-at : tie.Need-mul-word-at
+mul-word-at c = search needs
+
+add-word-at : tie.Need-add-word-at
+add-word-at c = search needs
+
+word-at-requires : tie.Need-word-at-requires
+word-at-requires c κs = search needs
+
+returns : tie.Need-returns
+unfolding statementAt
+returns c = c .word-at .ensures
+
+pub number-at-spec : {M : Type 1} → statement M
+number-at-spec = tie.close (tie.spec mul-word-at add-word-at word-at-requires returns)

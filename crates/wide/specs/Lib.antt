@@ -1,0 +1,2 @@
+-- What the contracts of wide integers speak of, beside the definitions of `rules`.
+pub mod Wide
