@@ -10,7 +10,7 @@ pub const OPERANDS: usize = 2;
 pub const ATTRIBUTES: usize = 3;
 
 /// The words of a row of each table. docs/LAYOUT.md decides them.
-pub const ROW_WORDS: [usize; 4] = [8, 11, 6, 10];
+pub const ROW_WORDS: [usize; 4] = [9, 10, 7, 11];
 
 /// A number of rows for each table: capacities, or counts.
 pub type Rows = [u64; 4];

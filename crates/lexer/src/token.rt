@@ -8,7 +8,7 @@ ghost use lib.ListN.{length, getD, drop};
 ghost use Rattle.rules.specs.Tokens.{single as singleOf, intStart, named as namedOf, pattern as patternOf, word as wordOf, front as frontOf};
 
 // The kind of the token that b is by itself; 0 where it is none.
-pub fn single(b: u8) -> u8
+pub fn single(b: u8) -> u32
     ensures { λ r. ⌜ r ≡ singleOf b ⌝ }
 {
     match b {

@@ -57,7 +57,7 @@ module _ (text words name : List ℕ) (first n : ℕ) where
   search-counted zero h = refl
   search-counted (suc k) h = rw (name-counted text words n (first + k) (omega arith), search-counted k (omega arith))
 
-  found-within : (k r : ℕ) → k ≤ n - first → findRow text words name first k ≡ At r → r < n
+  pub found-within : (k r : ℕ) → k ≤ n - first → findRow text words name first k ≡ At r → r < n
   unfolding findRow
   found-within zero r h e = let z : _≡_ {A = ℕ} 0 1 = cc in omega arith
   found-within (suc k) r h e =

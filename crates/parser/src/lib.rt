@@ -119,7 +119,7 @@ pub fn token(text: &[u8], s: State) -> State
 }
 
 // A token of a kind.
-pub fn expect(text: &[u8], s: State, kind: u8) -> State
+pub fn expect(text: &[u8], s: State, kind: u32) -> State
     requires { ⌜ length (now text) ≤ 65536 ⌝ }
     ensures { λ r. ⌜ ((I : List ℕ) (S : List ℕ) (O : List ℕ) (A : List ℕ) → out (r .last) (now (text .entry)) r I S O A ≡ run (stands (now (text .entry)) s I S O A) (R.expect kind)) ⌝ }
 {

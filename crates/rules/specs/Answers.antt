@@ -91,10 +91,29 @@ rowsOf f (refusal n p) = []
 unfoldable pub padded : ℕ → List ℕ → List ℕ
 padded n ws = ws ++ replicate (n - length ws) 0
 
--- A read's answer, and every word of every lent table as it returns. I S O A are the tables as they were lent.
-pub record Reads (e : Entry) (text I S O A : List ℕ) (r : Answer) (I′ S′ O′ A′ : List ℕ) : Type 0 where
-  pub answers : r ≡ answerOf (reading e text (lent I S O A))
-  pub items : I′ ≡ padded (length I) (rowsOf (λ t. t .items) (reading e text (lent I S O A)))
-  pub statements : S′ ≡ padded (length S) (rowsOf (λ t. t .statements) (reading e text (lent I S O A)))
-  pub operands : O′ ≡ padded (length O) (rowsOf (λ t. t .operands) (reading e text (lent I S O A)))
-  pub attributes : A′ ≡ padded (length A) (rowsOf (λ t. t .attributes) (reading e text (lent I S O A)))
+-- Every word of every lent table as a read returns: the rows of its outcome, and zeros behind them. I S O A are the tables as they were lent.
+pub record Leaves (o : Outcome) (I S O A I′ S′ O′ A′ : List ℕ) : Type 0 where
+  pub items : I′ ≡ padded (length I) (rowsOf (λ t. t .items) o)
+  pub statements : S′ ≡ padded (length S) (rowsOf (λ t. t .statements) o)
+  pub operands : O′ ≡ padded (length O) (rowsOf (λ t. t .operands) o)
+  pub attributes : A′ ≡ padded (length A) (rowsOf (λ t. t .attributes) o)
+
+-- an outcome's answer, and what it leaves
+pub record Ends (o : Outcome) (I S O A : List ℕ) (r : Answer) (I′ S′ O′ A′ : List ℕ) : Type 0 where
+  pub answers : r ≡ answerOf o
+  pub leaves : Leaves o I S O A I′ S′ O′ A′
+
+-- what a read of a text answers, and what it leaves
+abbrev pub Reads : Entry → List ℕ → List ℕ → List ℕ → List ℕ → List ℕ → Answer → List ℕ → List ℕ → List ℕ → List ℕ → Type 0
+Reads e text I S O A = Ends (reading e text (lent I S O A)) I S O A
+
+-- an answer as a report of six words: number, place, and the four counts; of a print number, and bytes written
+unfoldable pub reportOf : Answer → List ℕ
+reportOf (answer.Read i s o a) = 0 ∷ 0 ∷ i ∷ s ∷ o ∷ a ∷ []
+reportOf (answer.Printed n) = 0 ∷ n ∷ 0 ∷ 0 ∷ 0 ∷ 0 ∷ []
+reportOf (answer.Refused n p) = n ∷ p ∷ 0 ∷ 0 ∷ 0 ∷ 0 ∷ []
+
+-- the same read, told by a report
+pub record Reports (e : Entry) (text I S O A told I′ S′ O′ A′ : List ℕ) : Type 0 where
+  pub tells : told ≡ reportOf (answerOf (reading e text (lent I S O A)))
+  pub leaves : Leaves (reading e text (lent I S O A)) I S O A I′ S′ O′ A′

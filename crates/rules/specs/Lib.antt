@@ -16,3 +16,5 @@ pub mod Syntax
 pub mod Meaning
 pub mod Listing
 pub mod Printing
+pub mod View
+pub mod WellFormed

@@ -19,7 +19,7 @@ pub enum Checked {
 // What stands at the front of a text that begins with neither white space nor a comment.
 pub enum Front {
     // A token's kind and how many bytes it has.
-    Spelt(u8, usize),
+    Spelt(u32, usize),
     // No token, and how far on the fault lies.
     Fault(usize),
     // No byte at all.
@@ -28,7 +28,7 @@ pub enum Front {
 
 // A token: its kind, its first byte, and the byte past its last.
 pub struct Token {
-    pub kind: u8,
+    pub kind: u32,
     pub first: usize,
     pub past: usize,
 }
@@ -47,7 +47,7 @@ pub enum Lexed {
 
 // A token as the reader keeps it, in the 32 bits of a row's word: its kind, 0 for no token, its first byte and the byte past its last.
 pub struct Spot {
-    pub kind: u8,
+    pub kind: u32,
     pub first: u32,
     pub past: u32,
 }

@@ -35,3 +35,7 @@ module _ {C : Type 0} (text : List ℕ) (s : State) (I S O A : List ℕ) where
   -- a rule that does here what another does
   pub alike : (p q : P C) (R : Res C) → R ≡ run (stands text s I S O A) p → q (world text s I S O A) ≡ p (world text s I S O A) → R ≡ run (stands text s I S O A) q
   alike p q R k e = k ∙ sym (step.here text s I S O A q p e)
+
+  -- the same, where nothing is at fault
+  pub alike-if : (p q : P C) (R : Res C) → R ≡ run (stands text s I S O A) p → (s .fault ≡ 0 → q (world text s I S O A) ≡ p (world text s I S O A)) → R ≡ run (stands text s I S O A) q
+  alike-if p q R k e = k ∙ sym (step.here-if text s I S O A q p e)

@@ -4,7 +4,8 @@ use Prim.Native.Nat.{ℕ}
 use mathlib.Core.Path.{_≡_, refl, sym, ap, _∙_}
 use mathlib.Core.Bool.{Bool, true, false, cond}
 use mathlib.Core.List.{List}
-use borrow.Author.Tests.{eq-eqb, ne-eqb}
+use native.Mathlib.Omega.{arith}
+use borrow.Author.Tests.{eq-eqb, ne-eqb, eqb-true}
 use lib.Dec.{eqb}
 use Rattle.rules.specs.declared.Spot.{Spot}
 use Rattle.rules.specs.Reading.{nothing}
@@ -30,6 +31,16 @@ by-here : {C : Type 0} (t : Bool) (w : World) (n : ℕ) (at : Spot) (p q : P C) 
 unfolding run
 by-here true w n at p q e = e
 by-here false w n at p q e = refl
+
+by-here-if : {C : Type 0} (t : Bool) (w : World) (n : ℕ) (at : Spot) (p q : P C) → (t ≡ true → p w ≡ q w) → run (by t tt w n at) p ≡ run (by t tt w n at) q
+unfolding run
+by-here-if true w n at p q e = e refl
+by-here-if false w n at p q e = refl
+
+by-ran : {C : Type 0} (t : Bool) (w : World) (n : ℕ) (at : Spot) (p : P C) (b : C) (v : World) → run (by t tt w n at) p ≡ go b v → p w ≡ go b v
+unfolding run
+by-ran true w n at p b v e = e
+by-ran false w n at p b v e = let z : _≡_ {A = ℕ} 0 1 = cc in absurd (omega arith)
 
 by-done : {B : Type 0} (t : Bool) (b : B) (w : World) (n : ℕ) (at : Spot) → run (by t tt w n at) (give b) ≡ by t b w n at
 unfolding run
@@ -62,6 +73,15 @@ module _ {B : Type 0} (text : List ℕ) (s : State) (I S O A : List ℕ) where
   pub here : (p q : P B) → p (world text s I S O A) ≡ q (world text s I S O A) → run (stands text s I S O A) p ≡ run (stands text s I S O A) q
   unfolding out run
   here p q e = by-here (eqb (s .fault) 0) (world text s I S O A) (s .fault) (s .last) p q e
+
+  pub here-if : (p q : P B) → (s .fault ≡ 0 → p (world text s I S O A) ≡ q (world text s I S O A)) → run (stands text s I S O A) p ≡ run (stands text s I S O A) q
+  unfolding out
+  here-if p q e = by-here-if (eqb (s .fault) 0) (world text s I S O A) (s .fault) (s .last) p q (λ z. e (eqb-true (s .fault) 0 z))
+
+  -- a rule that went on from here went on
+  pub ran : (p : P B) (b : B) (v : World) → run (stands text s I S O A) p ≡ go b v → p (world text s I S O A) ≡ go b v
+  unfolding out
+  ran p b v e = by-ran (eqb (s .fault) 0) (world text s I S O A) (s .fault) (s .last) p b v e
 
   pub done : (b : B) → run (stands text s I S O A) (give b) ≡ out b text s I S O A
   unfolding out run

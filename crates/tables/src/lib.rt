@@ -30,7 +30,7 @@ pub const ATTRIBUTE_LENGTH: usize = 11;
 
 // Where the reader stands, and how many rows are claimed. Where something is at fault, `last` is the token at fault.
 pub struct State {
-    pub fault: u8,
+    pub fault: u32,
     pub at: u32,
     pub ahead: Spot,
     pub last: Spot,
@@ -72,7 +72,7 @@ pub fn start() -> State
 }
 
 // The state with a fault at a token, unless it has one already.
-pub fn refuse(s: State, what: u8, at: Spot) -> State
+pub fn refuse(s: State, what: u32, at: Spot) -> State
     requires { ⌜ 0 < what ⌝ }
     ensures { λ r. ⌜ ((text : List ℕ) (I : List ℕ) (S : List ℕ) (O : List ℕ) (A : List ℕ) → stands text r I S O A ≡ run (stands text s I S O A) (W.refuse what at)) ⌝ }
 {

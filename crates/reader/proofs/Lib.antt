@@ -1,0 +1,6 @@
+-- What the proofs share.
+pub mod Blocks
+pub mod Counts
+pub mod Told
+pub mod AttributeRows
+pub mod Closing

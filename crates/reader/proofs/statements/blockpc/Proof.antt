@@ -1,0 +1,49 @@
+-- `reader::statements::blockpc` meets its contract.
+-- Assumes nothing.
+use borrow.Author.Needs.{needs}
+use Rattle.rules.specs.Reading as R
+use Rattle.tables.proofs.Chains as chain
+use Rattle.reader.proofs.statements.blockpc.Statement.{statement}
+use Rattle.reader.proofs.statements.blockpc.Tie as tie
+
+token-requires : tie.Need-token-requires
+token-requires c κs = search needs
+
+block-requires : tie.Need-block-requires
+block-requires c κs = search needs
+
+int-32-requires : tie.Need-int-32-requires
+int-32-requires c κs = search needs
+
+condition-requires : tie.Need-condition-requires
+condition-requires c κs = search needs
+
+same-length : tie.Need-same-length
+same-length c = search needs
+
+same-length-2 : tie.Need-same-length-2
+same-length-2 c = search needs
+
+returns : tie.Need-returns
+unfolding R.blockpc
+returns c I A =
+    let n = c .before .before .before .before .before .before .before in
+    let b = n .before in
+    let t = b .before .before in
+    let S = t .before .before .before .before .args .statements .now in
+    let O = t .before .before .before .before .args .operands .now in
+    chain.then _ _ _ _ _ _ _ _ _ _ _ (t .token .ensures I S O A)
+    (chain.then _ _ _ _ _ _ _ _ _ _ _ (b .block .ensures I O A)
+    (chain.then _ _ _ _ _ _ _ _ _ _ _ (n .int-32 .ensures I S O A) (c .before .before .before .before .condition .ensures I A)))
+
+pub blockpc-spec : {M : Type 1} → statement M
+blockpc-spec =
+    tie.close
+    (tie.spec
+    token-requires
+    block-requires
+    int-32-requires
+    condition-requires
+    same-length
+    same-length-2
+    returns)

@@ -1,0 +1,1 @@
+// What holds of reading, rule by rule, as theorems over the definitions of `rules`. No code.
