@@ -22,7 +22,8 @@ ghost use mathlib.Core.List.{List};
 ghost use Prim.Native.Nat.{ℕ, _-_, _≤_, _<_};
 ghost use lib.ListN.{length};
 ghost use Rattle.rules.specs.Reading as R;
-ghost use Rattle.tables.specs.Stands.{out, stands, run};
+ghost use Rattle.rules.specs.Tokens.{tokenAt};
+ghost use Rattle.tables.specs.Stands.{world, out, stands, run};
 ghost use Rattle.rules.specs.Faults.{integer};
 ghost use Rattle.wide.specs.Wide.{bits, asField};
 
@@ -49,6 +50,15 @@ pub fn lookahead(text: &[u8], s: State) -> State
     if s.ahead.kind != 0 {
         return s;
     }
+    lexed(text, s)
+}
+
+// What is found at or after where a state stands that has nothing ahead: each token is lexed here, once.
+fn lexed(text: &[u8], s: State) -> State
+    requires { ⌜ length (now text) ≤ 65536 ⌝ }
+    requires { ⌜ s .fault ≡ 0 ⌝ }
+    ensures { λ r. ⌜ ((I : List ℕ) (S : List ℕ) (O : List ℕ) (A : List ℕ) → out (r .ahead) (now (text .entry)) r I S O A ≡ R.seen (tokenAt (now (text .entry)) (s .at)) (world (now (text .entry)) s I S O A)) ⌝ }
+{
     let at = s.at as usize;
     match lexer::next_token(text, Cursor { at }) {
         Lexed::Found(t) => {

@@ -1,5 +1,5 @@
--- Which tables are well formed: document 01's sentence, each clause a test with a sentence of its own. `wellFormed` joins them, in the order in which they are tested:
--- spans of rows are known to lie one behind the other before anything goes along them.
+-- Which tables are well formed: document 01's sentence, each clause a test with a sentence of its own, and `wellFormed` all of them. Of a test against 0 the clause is "unused words 0".
+-- They stand in the order in which they are tested: spans of rows are known to lie one behind the other before anything goes along them.
 -- Assumes nothing.
 use Prim.Native.Nat.{ℕ, _+_, _-_, _*_, _^_}
 use mathlib.Core.Bool.{Bool, true, cond, not, _&&_, _||_}
@@ -59,6 +59,7 @@ isZero w = eqb w 0
 unfoldable pub restUnused : ℕ → List ℕ → ℕ → Bool
 restUnused size words n = only isZero (drop (n * size) words)
 
+-- each by itself, a table is so
 unfoldable pub tableOk : ℕ → List ℕ → ℕ → Bool
 tableOk size words n = countFits size words n && (only wordFits words && restUnused size words n)
 
@@ -94,13 +95,14 @@ operandsOwned I S n past = consecutive 0 past (flat (operandSpans S) (each (item
 unfoldable pub attributesOwned : List ℕ → List ℕ → ℕ → ℕ → Bool
 attributesOwned I S n past = consecutive 0 past (flat (attributeSpans S) (each (itemAt I) 0 n))
 
--- an item's kind is one of the four; only between infer and result are there statements behind its middle
+-- only between infer and result are there statements behind an item's middle
 unfoldable pub middleOk : Item → Bool
 middleOk r =
     cond (eqb (r .kind) inferResult)
     (leb (r .statements .first) (r .middle) && leb (r .middle) (r .statements .past))
     (eqb (r .middle) (r .statements .past))
 
+-- an item's kind is one of the four
 unfoldable pub kindOk : Item → Bool
 kindOk r = inside inferResult rightHandSide (r .kind) && middleOk r
 
@@ -114,7 +116,7 @@ isName s = leb 2 (length s) && (eqb (getD s 0 0) (byte "%") && only nameByte (dr
 unfoldable pub isPattern : (ℕ → Bool) → List ℕ → Bool
 isPattern p s = leb 1 (length s) && only p s
 
--- each within the text
+-- each in the text
 unfoldable pub nameIn : List ℕ → Span → Bool
 nameIn text s = leb (s .past) (length text) && isName (lettersOf text s)
 
@@ -125,13 +127,13 @@ patternIn p text s = leb (s .past) (length text) && isPattern p (lettersOf text 
 unfoldable pub noSpan : Span → Bool
 noSpan s = eqb (s .first) 0 && eqb (s .past) 0
 
--- no statement from one up to row i has the name of row i
+-- names are distinct: no statement from one up to row i has the name of row i
 unfoldable pub newName : List ℕ → List ℕ → ℕ → ℕ → Bool
 newName text S first i = every (along (λ k. not (same (nameAt text S k) (nameAt text S i))) (first upTo i))
 
 -- References
 
--- which codes statements have: instructions first, then the other assignments, and two conditions
+-- the codes of statements: instructions first, then the other assignments, then the two conditions
 unfoldable pub isInstruction : ℕ → Bool
 isInstruction c = inside (instructionCode 0) (instructionCode 58) c
 
@@ -163,16 +165,19 @@ atMost n w = eqb (w .a) 0 && (eqb (w .b) 0 && (eqb (w .c) 0 && leb (w .d) n))
 unfoldable pub widthFits : ℕ → Bool
 widthFits w = leb w 65535
 
--- a value refers to an assignment from one up to another, and has no width and no bits; a constant has no row
+-- a value refers to an assignment from one up to another, and has no width and no bits
 unfoldable pub valueOk : List ℕ → ℕ → ℕ → Operand → Bool
 valueOk S first past r = refersTo S first past (r .row) && (eqb (r .width) 0 && atMost 0 (r .bits))
 
+-- a constant has any bits, a width that a type has, and no row
 unfoldable pub constantOk : Operand → Bool
 constantOk r = eqb (r .code) constantCode && (eqb (r .row) 0 && widthFits (r .width))
 
+-- an operand is one of the two
 unfoldable pub operandOk : List ℕ → ℕ → ℕ → Operand → Bool
 operandOk S first past r = cond (eqb (r .code) valueCode) (valueOk S first past r) (constantOk r)
 
+-- all operands of a span are so
 unfoldable pub operandsOk : List ℕ → List ℕ → ℕ → ℕ → Span → Bool
 operandsOk S O first past s = every (along (λ i. operandOk S first past (operandAt O i)) s)
 
@@ -190,10 +195,11 @@ greatest c = cond (eqb c signBitsCode) 255 0
 unfoldable pub numbersOk : Attribute → Bool
 numbersOk r = cond (eqb (r .code) rangeCode) true (atMost (greatest (r .code)) (r .low) && atMost 0 (r .high))
 
--- an attribute with a code from one up to and with another
+-- an attribute's code is from one up to and with another, and it has what its code wants
 unfoldable pub attributeOk : List ℕ → ℕ → ℕ → Attribute → Bool
 attributeOk text lo hi r = inside lo hi (r .code) && (patternOk text r && numbersOk r)
 
+-- all attributes of a span are so
 unfoldable pub attributesOk : List ℕ → List ℕ → ℕ → ℕ → Span → Bool
 attributesOk text A lo hi s = every (along (λ i. attributeOk text lo hi (attributeAt A i)) s)
 
@@ -218,14 +224,14 @@ hasBlock c = eqb c (keywordCode keyword.phi) || eqb c (keywordCode keyword.block
 unfoldable pub blockOk : List ℕ → ℕ → ℕ → Statement → Bool
 blockOk S first i r = cond (hasBlock (r .code)) (refersToBlock S first i (r .block)) (eqb (r .block) 0)
 
--- how many operands a statement has: as many as its instruction takes, or as its block's number says in a phi; a condition has two, the others none
+-- a statement has as many operands as its instruction takes; a phi as many as its block's number; a condition two; the others none
 unfoldable pub arity : List ℕ → Statement → ℕ
 arity S r =
     cond (isInstruction (r .code)) (arityOf (r .code - 1))
     (cond (eqb (r .code) (keywordCode keyword.phi)) (statementAt S (r .block) .number)
     (cond (isCondition (r .code)) 2 0))
 
--- they refer to assignments before it
+-- so many, and they refer to assignments before it
 unfoldable pub operandsFit : List ℕ → List ℕ → ℕ → ℕ → Statement → Bool
 operandsFit S O first i r = eqb (long (r .operands)) (arity S r) && operandsOk S O first i (r .operands)
 
@@ -234,6 +240,7 @@ unfoldable pub attributesFit : List ℕ → List ℕ → Statement → Bool
 attributesFit text A r =
     cond (isAssignment (r .code)) (attributesOk text A knownBitsCode rangeCode (r .attributes)) (eqb (long (r .attributes)) 0)
 
+-- a statement's code is one of them, and all that is so
 unfoldable pub statementOk : List ℕ → List ℕ → List ℕ → List ℕ → ℕ → ℕ → Statement → Bool
 statementOk text S O A first i r =
     inside (instructionCode 0) (keywordCode keyword.blockpc) (r .code)
@@ -253,10 +260,11 @@ infers k = eqb k inferResult || eqb k leftHandSide
 unfoldable pub inferOk : List ℕ → Item → Bool
 inferOk S r = cond (infers (r .kind)) (refersTo S (r .statements .first) (r .middle) (r .infer)) (eqb (r .infer) 0)
 
--- result has one operand, cand two, and infer alone none; they refer to assignments of the item
+-- cand has two operands, infer alone none, result one
 unfoldable pub closingArity : ℕ → ℕ
 closingArity k = cond (eqb k candidate) 2 (cond (eqb k leftHandSide) 0 1)
 
+-- so many, and they refer to assignments of the item
 unfoldable pub closingOk : List ℕ → List ℕ → Item → Bool
 closingOk S O r =
     eqb (long (r .operands)) (closingArity (r .kind))
@@ -268,14 +276,17 @@ rootsOk text A r =
     cond (eqb (r .kind) rightHandSide) (eqb (long (r .attributes)) 0)
     (attributesOk text A demandedBitsCode harvestedFromUseCode (r .attributes))
 
+-- all statements of an item are so
 unfoldable pub statementsOk : List ℕ → List ℕ → List ℕ → List ℕ → Span → Bool
 statementsOk text S O A s = every (along (λ i. statementOk text S O A (s .first) i (statementAt S i)) s)
 
+-- an item's closing lines and statements are so
 unfoldable pub itemOk : List ℕ → List ℕ → List ℕ → List ℕ → Item → Bool
 itemOk text S O A r = inferOk S r && (closingOk S O r && (rootsOk text A r && statementsOk text S O A (r .statements)))
 
 -- The whole
 
+-- counts within the capacities, and unused words 0
 unfoldable pub tablesOk : List ℕ → List ℕ → List ℕ → List ℕ → Counts → Bool
 tablesOk I S O A c =
     tableOk itemLength I (c .items)
@@ -283,9 +294,11 @@ tablesOk I S O A c =
     && (tableOk operandLength O (c .operands)
     && tableOk attributeLength A (c .attributes)))
 
+-- the kinds of the first n items
 unfoldable pub kindsOk : List ℕ → ℕ → Bool
 kindsOk I n = every (each (λ i. kindOk (itemAt I i)) 0 n)
 
+-- rows consecutive, inside the counts, each owned exactly once
 unfoldable pub rowsOwned : List ℕ → List ℕ → Counts → Bool
 rowsOwned I S c =
     statementsOwned I (c .items) (c .statements)
@@ -293,8 +306,10 @@ rowsOwned I S c =
     && (operandsOwned I S (c .items) (c .operands)
     && attributesOwned I S (c .items) (c .attributes)))
 
+-- what the first n items and all that they own say
 unfoldable pub itemsOk : List ℕ → List ℕ → List ℕ → List ℕ → List ℕ → ℕ → Bool
 itemsOk text I S O A n = every (each (λ i. itemOk text S O A (itemAt I i)) 0 n)
 
+-- a text and four tables, with so many rows counted
 unfoldable pub wellFormed : List ℕ → List ℕ → List ℕ → List ℕ → List ℕ → Counts → Bool
 wellFormed text I S O A c = shortText text && (tablesOk I S O A c && (rowsOwned I S c && itemsOk text I S O A (c .items)))

@@ -1,0 +1,9 @@
+-- Laws that belong to no one function. They assume nothing.
+pub mod Records
+pub mod Tails
+pub mod Chains
+pub mod Bounds
+pub mod Wholes
+pub mod Lines
+pub mod Seen
+pub mod Decimals

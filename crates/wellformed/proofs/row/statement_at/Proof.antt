@@ -1,0 +1,44 @@
+-- `statement_at` meets its contract.
+-- Assumes nothing.
+use borrow.Author.Needs.{needs}
+use Rattle.rules.specs.Rows.{statementAt}
+use Rattle.wellformed.proofs.row.statement_at.Statement.{statement}
+use Rattle.wellformed.proofs.row.statement_at.Tie as tie
+
+word-requires : tie.Need-word-requires
+word-requires c κs = search needs
+
+span-requires : tie.Need-span-requires
+span-requires c κs = search needs
+
+word-requires-2 : tie.Need-word-requires-2
+word-requires-2 c κs = search needs
+
+word-requires-3 : tie.Need-word-requires-3
+word-requires-3 c κs = search needs
+
+word-requires-4 : tie.Need-word-requires-4
+word-requires-4 c κs = search needs
+
+span-requires-2 : tie.Need-span-requires-2
+span-requires-2 c κs = search needs
+
+span-requires-3 : tie.Need-span-requires-3
+span-requires-3 c κs = search needs
+
+returns : tie.Need-returns
+unfolding statementAt
+returns c = cc (c .before .before .before .before .before .before .word .ensures, c .before .before .before .before .before .span .ensures, c .before .before .before .before .word2 .ensures, c .before .before .before .word3 .ensures, c .before .before .word4 .ensures, c .before .span2 .ensures, c .span3 .ensures)
+
+pub statement-at-spec : {M : Type 1} → statement M
+statement-at-spec =
+    tie.close
+    (tie.spec
+    word-requires
+    span-requires
+    word-requires-2
+    word-requires-3
+    word-requires-4
+    span-requires-2
+    span-requires-3
+    returns)

@@ -1,0 +1,240 @@
+// Statement rows, each in an item whose statements begin at `first`.
+use crate::attribute::attributes_ok;
+use crate::letters::name_in;
+use crate::letters::new_name;
+use crate::letters::no_span;
+use crate::operand::long;
+use crate::operand::operands_ok;
+use crate::operand::refers_to_block;
+use crate::operand::width_fits;
+use crate::row::statement_at;
+use crate::sort::has_block;
+use crate::sort::inside;
+use crate::sort::is_assignment;
+use crate::sort::is_condition;
+use crate::sort::is_instruction;
+use rules::Span;
+use rules::Statement;
+use rules::code;
+use tables::number_at;
+ghost use mathlib.Core.Path.{_≡_};
+ghost use Prim.Native.Nat.{_<_};
+ghost use Rattle.rules.specs.Instructions.{arityOf};
+ghost use Rattle.rules.specs.WellFormed.{nameOk, widthOk, numberOk, blockOk, arity as arityIn, operandsFit, attributesFit, statementOk, statementsOk};
+
+// How many operands each instruction takes, by its place.
+const ARITIES: [u8; 59] = [
+    2,
+    2,
+    2,
+    2,
+    2,
+    2,
+    2,
+    2,
+    2,
+    2,
+    2,
+    2,
+    2,
+    2,
+    2,
+    2,
+    2,
+    2,
+    2,
+    2,
+    2,
+    2,
+    2,
+    2,
+    2,
+    2,
+    2,
+    2,
+    2,
+    3,
+    1,
+    1,
+    1,
+    2,
+    2,
+    2,
+    2,
+    2,
+    2,
+    1,
+    1,
+    1,
+    1,
+    1,
+    3,
+    3,
+    2,
+    2,
+    2,
+    2,
+    2,
+    2,
+    2,
+    2,
+    2,
+    2,
+    2,
+    0,
+    1,
+];
+
+// How many operands instruction k takes.
+fn takes(k: usize) -> u8
+    requires { ⌜ k < 59 ⌝ }
+    ensures { λ r. ⌜ r ≡ arityOf k ⌝ }
+{
+    ARITIES[k]
+}
+
+// Whether an assignment has a name that is new in its item, a condition none.
+fn name_ok(text: &[u8], statements: &[u32], first: u32, i: u32, r: Statement) -> bool
+    ensures { λ x. ⌜ x ≡ nameOk (now (text .entry)) (now (statements .entry)) first i r ⌝ }
+{
+    let name = r.name;
+    if !is_assignment(r.code) {
+        return no_span(name);
+    }
+    if !name_in(text, name) {
+        return false;
+    }
+    new_name(text, statements, first, i)
+}
+
+// Whether an assignment has a type or none, a condition none.
+fn width_ok(r: Statement) -> bool
+    ensures { λ x. ⌜ x ≡ widthOk r ⌝ }
+{
+    if is_assignment(r.code) {
+        return width_fits(r.width);
+    }
+    r.width == 0
+}
+
+// Whether only a block and a blockpc have a number.
+fn number_ok(r: Statement) -> bool
+    ensures { λ x. ⌜ x ≡ numberOk r ⌝ }
+{
+    if r.code == code::BLOCK {
+        return true;
+    }
+    r.code == code::BLOCKPC || r.number == 0
+}
+
+// Whether a phi and a blockpc refer to a block before them, and the others to none.
+fn block_ok(statements: &[u32], first: u32, i: u32, r: Statement) -> bool
+    ensures { λ x. ⌜ x ≡ blockOk (now (statements .entry)) first i r ⌝ }
+{
+    if has_block(r.code) {
+        return refers_to_block(statements, first, i, r.block);
+    }
+    r.block == 0
+}
+
+// How many operands a statement has to have.
+fn arity(statements: &[u32], r: Statement) -> u32
+    ensures { λ x. ⌜ x ≡ arityIn (now (statements .entry)) r ⌝ }
+{
+    let c = r.code;
+    if is_instruction(c) {
+        return takes((c - 1) as usize) as u32;
+    }
+    if c == code::PHI {
+        return number_at(statements, r.block);
+    }
+    if is_condition(c) {
+        return 2;
+    }
+    0
+}
+
+// Whether a statement has as many operands as it has to, and they refer to assignments before it.
+fn operands_fit(statements: &[u32], operands: &[u32], first: u32, i: u32, r: Statement) -> bool
+    ensures { λ x. ⌜ x ≡ operandsFit (now (statements .entry)) (now (operands .entry)) first i r ⌝ }
+{
+    let s = r.operands;
+    if long(s) != arity(statements, r) {
+        return false;
+    }
+    operands_ok(statements, operands, first, i, s)
+}
+
+// Whether an assignment has attributes of its own sort, a condition none.
+fn attributes_fit(text: &[u8], attributes: &[u32], r: Statement) -> bool
+    ensures { λ x. ⌜ x ≡ attributesFit (now (text .entry)) (now (attributes .entry)) r ⌝ }
+{
+    let s = r.attributes;
+    if !is_assignment(r.code) {
+        return long(s) == 0;
+    }
+    attributes_ok(text, attributes, code::KNOWN_BITS, code::RANGE, s)
+}
+
+// Whether statement row i is well formed.
+fn statement_ok(
+    text: &[u8],
+    statements: &[u32],
+    operands: &[u32],
+    attributes: &[u32],
+    first: u32,
+    i: u32,
+    r: Statement,
+) -> bool
+    ensures { λ x. ⌜ x ≡ statementOk (now (text .entry)) (now (statements .entry)) (now (operands .entry)) (now (attributes .entry)) first i r ⌝ }
+{
+    if !inside(1, code::BLOCKPC, r.code) {
+        return false;
+    }
+    if !name_ok(text, statements, first, i, r) {
+        return false;
+    }
+    if !width_ok(r) {
+        return false;
+    }
+    if !number_ok(r) {
+        return false;
+    }
+    if !block_ok(statements, first, i, r) {
+        return false;
+    }
+    if !operands_fit(statements, operands, first, i, r) {
+        return false;
+    }
+    attributes_fit(text, attributes, r)
+}
+
+// Whether the statement rows of an item are well formed.
+pub fn statements_ok(
+    text: &[u8],
+    statements: &[u32],
+    operands: &[u32],
+    attributes: &[u32],
+    s: Span,
+) -> bool
+    ensures { λ r. ⌜ r ≡ statementsOk (now (text .entry)) (now (statements .entry)) (now (operands .entry)) (now (attributes .entry)) s ⌝ }
+{
+    let first = s.first;
+    let end = s.past;
+    let mut i = first;
+    while i < end {
+        if !statement_ok(
+            text,
+            statements,
+            operands,
+            attributes,
+            first,
+            i,
+            statement_at(statements, i),
+        ) {
+            return false;
+        }
+        i += 1;
+    }
+    true
+}
