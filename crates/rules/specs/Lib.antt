@@ -18,3 +18,4 @@ pub mod Listing
 pub mod Printing
 pub mod View
 pub mod WellFormed
+pub mod Prints
