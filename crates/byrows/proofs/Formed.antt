@@ -52,7 +52,7 @@ module _ (text I S O A : List ℕ) (c : Counts) (ok : wellFormed text I S O A c 
   abbrev owns : Bool
   owns = rowsOwned I S c && itemsOk text I S O A (c .items)
 
-  tables-known : tablesOk I S O A c ≡ true
+  pub tables-known : tablesOk I S O A c ≡ true
   unfolding wellFormed
   tables-known = and-left (tablesOk I S O A c) owns (and-right (formed.shortText text) (tablesOk I S O A c && owns) ok)
 
@@ -63,11 +63,11 @@ module _ (text I S O A : List ℕ) (c : Counts) (ok : wellFormed text I S O A c 
   items-known : itemsOk text I S O A (c .items) ≡ true
   items-known = and-right (rowsOwned I S c) (itemsOk text I S O A (c .items)) owns-known
 
-  rows-owned : rowsOwned I S c ≡ true
+  pub rows-owned : rowsOwned I S c ≡ true
   rows-owned = and-left (rowsOwned I S c) (itemsOk text I S O A (c .items)) owns-known
 
   -- ---- counts
-  fits-count : (k : ℕ) (words : List ℕ) (n : ℕ) → tableOk k words n ≡ true → n ≤ min 65536 (length words / k)
+  pub fits-count : (k : ℕ) (words : List ℕ) (n : ℕ) → tableOk k words n ≡ true → n ≤ min 65536 (length words / k)
   unfolding tableOk countFits
   fits-count k words n e = leb-true n (capacity k (length words)) (and-left (countFits k words n) (formed.only formed.wordFits words && formed.restUnused k words n) e)
 
@@ -93,7 +93,7 @@ module _ (text I S O A : List ℕ) (c : Counts) (ok : wellFormed text I S O A c 
   abbrev owned₂ : Bool
   owned₂ = kindsOk I (c .items) && owned₃
 
-  statements-owned : consecutive 0 s (each (λ i. itemAt I i .statements) 0 (c .items)) ≡ true
+  pub statements-owned : consecutive 0 s (each (λ i. itemAt I i .statements) 0 (c .items)) ≡ true
   unfolding rowsOwned statementsOwned
   statements-owned = and-left (statementsOwned I (c .items) s) owned₂ rows-owned
 
@@ -101,7 +101,7 @@ module _ (text I S O A : List ℕ) (c : Counts) (ok : wellFormed text I S O A c 
   unfolding rowsOwned
   kinds-known = and-left (kindsOk I (c .items)) owned₃ (and-right (statementsOwned I (c .items) s) owned₂ rows-owned)
 
-  operands-owned : consecutive 0 o (flat (operandSpans S) (each (itemAt I) 0 (c .items))) ≡ true
+  pub operands-owned : consecutive 0 o (flat (operandSpans S) (each (itemAt I) 0 (c .items))) ≡ true
   unfolding rowsOwned operandsOwned
   operands-owned =
       and-left (operandsOwned I S (c .items) o) (formed.attributesOwned I S (c .items) (c .attributes))
@@ -149,7 +149,7 @@ module _ (text I S O A : List ℕ) (c : Counts) (ok : wellFormed text I S O A c 
         (mem-each (λ i. statementAt S i .operands) (item .statements .past - item .statements .first) (item .statements .first) i l (omega arith))))
 
   -- ---- the statements are sound
-  owner-of : (i : ℕ) → i < s → Owner (λ i. itemAt I i .statements) 0 (c .items) i
+  pub owner-of : (i : ℕ) → i < s → Owner (λ i. itemAt I i .statements) 0 (c .items) i
   owner-of i h = owner (λ i. itemAt I i .statements) (c .items) 0 0 s statements-owned i (omega arith) h
 
   pub tables-sound : Sound S O s
