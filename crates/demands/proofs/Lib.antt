@@ -1,0 +1,18 @@
+-- What was demanded, over the contracts of the public calls: a statement to each file, in the words of the demand.
+-- Calls has the words that they are stated in.
+pub mod Calls
+pub mod Reports
+-- Demand 1.
+pub mod FirstBad
+pub mod EveryCall
+pub mod Exactly
+-- Demand 2.
+pub mod AsTheCrate
+-- Demand 3.
+pub mod Canonical
+pub mod Lines
+pub mod Listing
+pub mod ReadingBack
+-- What the contracts are held to.
+pub mod Witnesses
+pub mod ShutOut

@@ -1,0 +1,1 @@
+// What was demanded, as theorems over the contracts of the public calls. No code.
