@@ -1,9 +1,9 @@
-/* peldarox.h -- read Souper IR into tables lent by the caller.
+/* peldarox.h -- read Souper IR into tables lent by the caller, print such tables, and find names in them.
 
    The library takes no memory of its own, keeps nothing between calls and calls nothing back: everything a call
-   knows is in its arguments, everything it has to say is in the four tables and the report. Any bytes, any lengths
-   and any former contents of the tables are allowed; every call ends, with one of the answers below. Calls that
-   share no memory that one of them writes may run at the same time. */
+   knows is in its arguments, everything it has to say is in what it is lent to write and in the report. Any bytes,
+   any lengths, any counts and any contents of the tables are allowed; every call ends, with one of the answers below.
+   Calls that share no memory that one of them writes may run at the same time. */
 
 #ifndef PELDAROX_H
 #define PELDAROX_H
@@ -23,6 +23,9 @@ extern "C" {
 #define PELDAROX_STATEMENT_WORDS 10
 #define PELDAROX_OPERAND_WORDS 7
 #define PELDAROX_ATTRIBUTE_WORDS 11
+
+/* How many 32-bit words the work area of a print needs, by the counts of statements and operands. */
+#define PELDAROX_WORK_WORDS(statement_count, operand_count) (3 * (statement_count) + (operand_count) + 1)
 
 /* Read a list of items from the first byte of a text to its last: replacements (statements, then `infer` and
    `result` or `cand`), left-hand sides (statements, then `infer`), or right-hand sides (statements, then `result`).
@@ -87,6 +90,63 @@ void peldarox_read_right_hand_sides(const uint8_t *text, size_t text_bytes,
                                     uint32_t *operands, size_t operand_words,
                                     uint32_t *attributes, size_t attribute_words,
                                     uint64_t report[6]);
+
+/* Print the items of four tables, one after another: of each the statements that its closing lines need, every one
+   after those it refers to, and its closing lines, a line feed after each line.
+
+     text, text_bytes   the text that the tables were read from: names and patterns are taken from it. It need not be
+                        UTF-8. Text and tables are only read.
+     items, statements, operands, attributes
+                        the four tables, each with its words, as a read left them or made otherwise.
+     item_count, statement_count, operand_count, attribute_count
+                        how many rows of each table are counted: report[2] to report[5] of the read.
+     work, work_words   the work area: PELDAROX_WORK_WORDS(statement_count, operand_count) words or more, whatever
+                        they hold. It may be lent longer than that.
+     output, output_bytes
+                        where the bytes go; no closing zero byte is written.
+     report             report[0], the number of the answer, and report[1], as below; report[2] to report[5] are 0.
+
+   The answers, tested in this order:
+
+     No.  Given when                                                      report[1]
+     8    the tables are not well formed                                  0
+     9    the work area is too short                                      words needed
+     10   the output is too short                                         bytes needed
+     0    printed                                                         bytes written
+
+   To ask for the bytes needed, print with output_bytes 0: the answer is 10 with their number (0 if there are none to
+   write); then print again into an output of that length.
+
+   What is left behind. 8 and 9: nothing is changed. 10: every word of the work area lent is 0, and the output is not
+   changed. 0: every word of the work area lent is 0, and of the output the bytes written are changed and no others.
+
+   Pointers as for a read: the work area, the output and the report overlap nothing else that is lent to the call. */
+
+void peldarox_print(const uint8_t *text, size_t text_bytes,
+                    const uint32_t *items, size_t item_words,
+                    const uint32_t *statements, size_t statement_words,
+                    const uint32_t *operands, size_t operand_words,
+                    const uint32_t *attributes, size_t attribute_words,
+                    uint64_t item_count, uint64_t statement_count,
+                    uint64_t operand_count, uint64_t attribute_count,
+                    uint32_t *work, size_t work_words,
+                    uint8_t *output, size_t output_bytes,
+                    uint64_t report[6]);
+
+/* Find the name of a statement: text, tables and counts as for a print, and the statement's row, counted from 0.
+   The name is the part of the text that begins at byte report[1] and has report[2] bytes, the `%` first. It has none
+   where the tables are not well formed, and where the row is past the count or no assignment (a `pc` or `blockpc`);
+   then report[1] is 0 too. The rest of the report is 0. */
+
+void peldarox_name(const uint8_t *text, size_t text_bytes,
+                   const uint32_t *items, size_t item_words,
+                   const uint32_t *statements, size_t statement_words,
+                   const uint32_t *operands, size_t operand_words,
+                   const uint32_t *attributes, size_t attribute_words,
+                   uint64_t item_count, uint64_t statement_count,
+                   uint64_t operand_count, uint64_t attribute_count,
+                   uint64_t row,
+                   uint64_t report[6]);
 
 #ifdef __cplusplus
 }

@@ -128,7 +128,7 @@ module _ (text I S O A : List ℕ) (c : Counts) (ok : wellFormed text I S O A c 
     pub item-whole : Whole text S O s item
     item-whole = whole text S O A s item (item-inside .high) (item-inside .up) middle-known item-known
 
-    item-row : (i : ℕ) → item .statements .first ≤ i → i < item .statements .past → statementOk text S O A (item .statements .first) i (statementAt S i) ≡ true
+    pub item-row : (i : ℕ) → item .statements .first ≤ i → i < item .statements .past → statementOk text S O A (item .statements .first) i (statementAt S i) ≡ true
     item-row = row-known text S O A s item (item-inside .high) (item-inside .up) middle-known item-known
 
     -- its rows refer to rows of its own

@@ -1,34 +1,41 @@
--- Document 01's starred examples that concern reading: one table, and one statement about it, by computation.
+-- Document 01's starred examples: one table, and one statement about it, by computation.
 -- Assumes nothing.
 use mathlib.Core.Path.{_≡_, refl}
-use mathlib.Core.List.{List, [], _∷_}
+use mathlib.Core.List.{List, [], _∷_, _++_}
 use Prim.Native.Nat.{ℕ, _*_}
 use Prim.Native.String.{String}
 use lib.ListN.{length}
 use Rattle.rules.specs.declared.Entry.{Entry}
 use Rattle.rules.specs.declared.Entry.the-variants.{Replacements, LeftHandSides, RightHandSides}
 use Rattle.rules.specs.declared.Answer.{Answer}
-use Rattle.rules.specs.declared.Answer.the-variants.{Read, Refused}
+use Rattle.rules.specs.declared.Answer.the-variants.{Read, Printed, Refused}
 use Rattle.rules.specs.Bytes.{bytes, inside, digit, letter, nameByte, patternByte, lineByte, same}
 use Rattle.rules.specs.Utf8 as utf8
 use Rattle.rules.specs.Space as space
 use Rattle.rules.specs.Tokens as tokens
 use Rattle.rules.specs.Integers as integers
 use Rattle.rules.specs.Instructions as instructions
-use Rattle.rules.specs.Rows.{itemWords, statementWords, operandWords, attributeWords, statementAt, nameAt}
+use Rattle.rules.specs.Rows.{itemWords, statementWords, operandWords, attributeWords, itemAt, statementAt, operandAt, attributeAt, nameAt}
 use Rattle.rules.specs.World as world
 use Rattle.rules.specs.Reading as reading
-use Rattle.rules.specs.Answers.{Lent, start, reading, readChecked, outcome, answerOf, faultNumber}
+use Rattle.rules.specs.Answers.{Lent, Outcome, start, reading, readChecked, outcome, answerOf, rowsOf, padded, faultNumber}
+use Rattle.rules.specs.View as view
+use Rattle.rules.specs.Listing as listing
+use Rattle.rules.specs.Printing as printing
+use Rattle.rules.specs.Prints.{printOf}
+use Rattle.rules.specs.WellFormed.{Counts, counts}
 
 -- so many rows of each table
 abbrev rows : ℕ → ℕ → ℕ → ℕ → Lent
 rows i s o a = record { items = 9 * i; statements = 10 * s; operands = 7 * o; attributes = 11 * a }
 
+-- an example, with what is answered, and what is then printed: nothing after a refusal
 pub record Example : Type 0 where
   pub entry : Entry
   pub text : String
   pub lent : Lent
   pub answer : Answer
+  pub print : List String
 
 abbrev R : Entry
 R = Replacements
@@ -43,44 +50,85 @@ T = RightHandSides
 abbrev many : Lent
 many = rows 100 100 100 100
 
-abbrev settled : Entry → String → Answer → Example
-settled e t a = record { entry = e; text = t; lent = many; answer = a }
+abbrev refused : Entry → String → ℕ → ℕ → Example
+refused e t n p = record { entry = e; text = t; lent = many; answer = Refused n p; print = [] }
+
+abbrev accepted : Entry → String → Answer → List String → Example
+accepted e t a l = record { entry = e; text = t; lent = many; answer = a; print = l }
 
 abbrev pub examples : List Example
 examples =
-    settled R "" (Read 0 0 0 0) ∷
-    settled R "%0 = add %0, 1" (Refused 6 9) ∷
-    settled R "%0 =" (Refused 4 3) ∷
-    settled R "%0" (Refused 4 1) ∷
-    settled R "cand - 1" (Refused 5 5) ∷
-    settled L "%a:i0 = var infer %a" (Refused 4 3) ∷
-    settled L "%a:i65536 = var infer %a" (Refused 4 3) ∷
-    settled L "%a:i65535 = var infer %a" (Read 1 1 0 0) ∷
-    settled R "%a = var (knownBits =0)" (Refused 3 19) ∷
-    settled R "%0=var %0=var" (Refused 6 7) ∷
-    settled R "pc 1 2" (Refused 4 5) ∷
-    settled T "result 1 result %x" (Refused 6 16) ∷
-    settled R "%b = block 2 %p = phi %b, 1" (Refused 4 26) ∷
-    settled R "%1=var %0 = var pc %0 1 %2:i08=add %1, -0 cand %2 007" (Read 1 4 6 0) ∷
-    record { entry = R; text = "%1=var %0 = var pc %0 1 %2:i08=add %1, -0 cand %2 007"; lent = rows 100 3 100 100; answer = Refused 7 42 } ∷ []
+    accepted R "" (Read 0 0 0 0) [] ∷
+    refused R "%0 = add %0, 1" 6 9 ∷
+    refused R "%0 =" 4 3 ∷
+    refused R "%0" 4 1 ∷
+    refused R "cand - 1" 5 5 ∷
+    refused L "%a:i0 = var infer %a" 4 3 ∷
+    refused L "%a:i65536 = var infer %a" 4 3 ∷
+    accepted L "%a:i65535 = var infer %a" (Read 1 1 0 0) ("%a:i65535 = var" ∷ "infer %a" ∷ []) ∷
+    refused R "%a = var (knownBits =0)" 3 19 ∷
+    refused R "%0=var %0=var" 6 7 ∷
+    refused R "pc 1 2" 4 5 ∷
+    refused T "result 1 result %x" 6 16 ∷
+    refused R "%b = block 2 %p = phi %b, 1" 4 26 ∷
+    accepted R "%1=var %0 = var pc %0 1 %2:i08=add %1, -0 cand %2 007" (Read 1 4 6 0) ("%1 = var" ∷ "%2:i8 = add %1, 0" ∷ "cand %2 7" ∷ []) ∷
+    record {
+      entry = R;
+      text = "%1=var %0 = var pc %0 1 %2:i08=add %1, -0 cand %2 007";
+      lent = rows 100 3 100 100;
+      answer = Refused 7 42;
+      print = [];
+    } ∷ []
 
--- what the definition answers, and what document 01 says
-abbrev pub given : List Example → List Answer
+-- an answer, and the bytes of a print
+pub record Told : Type 0 where
+  pub answer : Answer
+  pub print : List ℕ
+
+-- the rows that an answer counts
+abbrev counted : Answer → Counts
+counted (Read i s o a) = counts i s o a
+counted (Printed n) = counts 0 0 0 0
+counted (Refused n p) = counts 0 0 0 0
+
+-- what an outcome answers, and what the tables that it leaves print as
+abbrev told : List ℕ → Lent → Outcome → Told
+told text l o =
+    record {
+      answer = answerOf o;
+      print =
+          printOf text
+          (padded (l .items) (rowsOf (λ t. t .items) o))
+          (padded (l .statements) (rowsOf (λ t. t .statements) o))
+          (padded (l .operands) (rowsOf (λ t. t .operands) o))
+          (padded (l .attributes) (rowsOf (λ t. t .attributes) o))
+          (counted (answerOf o));
+    }
+
+-- lines, with a line feed after each
+abbrev lines : List String → List ℕ
+lines [] = []
+lines (l ∷ ls) = bytes l ++ (10 ∷ lines ls)
+
+-- what the definitions say of each example, and what document 01 says
+abbrev pub given : List Example → List Told
 given [] = []
-given (x ∷ l) = answerOf (reading (x .entry) (bytes (x .text)) (x .lent)) ∷ given l
+given (x ∷ l) = told (bytes (x .text)) (x .lent) (reading (x .entry) (bytes (x .text)) (x .lent)) ∷ given l
 
-abbrev pub said : List Example → List Answer
+abbrev pub said : List Example → List Told
 said [] = []
-said (x ∷ l) = x .answer ∷ said l
+said (x ∷ l) = record { answer = x .answer; print = lines (x .print) } ∷ said l
 
 pub settled-examples : given examples ≡ said examples
-unfolding answerOf reading readChecked outcome start faultNumber
+unfolding answerOf rowsOf padded reading readChecked outcome start faultNumber
     utf8.seqLen utf8.codePoint space.white space.spaceLen space.commentLen space.skipLen
     tokens.single tokens.intStart tokens.pattern tokens.word tokens.start tokens.tokenAt
     inside digit letter nameByte patternByte lineByte same
     integers.integer integers.typeWidth integers.digits integers.decimal
     instructions.instructionOf instructions.arityOf instructions.instructionName instructions.keywordOf
-    itemWords statementWords operandWords attributeWords statementAt nameAt
+    itemWords statementWords operandWords attributeWords itemAt statementAt operandAt attributeAt nameAt
+    view.asOperand view.operandOf view.asAttribute view.attributeOf view.asRootAttribute view.rootAttributeOf view.asSide view.asStatement view.statementOf view.asClosing view.asItem view.itemOf view.itemsOf
+    listing.listedBefore listing.listedBetween printing.printed printOf
     world.claimItem world.claimStatement world.claimOperand world.claimAttribute world.asks world.repeated world.many
     reading.seen reading.lookahead reading.token reading.expect reading.keywordAt reading.lookaheadIdent reading.ident reading.valued reading.int reading.intField reading.type reading.typeIfAny
     reading.findRow reading.inScope reading.known reading.fresh reading.blockAt reading.value reading.newName reading.block

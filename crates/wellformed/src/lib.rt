@@ -6,7 +6,7 @@ mod letters;
 mod operand;
 mod owned;
 mod row;
-mod sort;
+pub mod sort;
 mod statement;
 mod table;
 
