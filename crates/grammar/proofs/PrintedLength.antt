@@ -1,0 +1,42 @@
+-- What a text's items print has at most twice as many bytes as the text: by names, into tables, and by the public read calls.
+-- Assumes nothing.
+use Prim.Native.Nat.{ℕ, _*_, _≤_}
+use mathlib.Core.Path.{_≡_}
+use mathlib.Core.List.{List}
+use native.Mathlib.Omega.{arith}
+use lib.ListN.{length}
+use Rattle.rules.specs.declared.Entry.{Entry}
+use Rattle.rules.specs.declared.Answer.{Answer}
+use Rattle.rules.specs.Syntax.{Item}
+use Rattle.rules.specs.Printing.{printedAll}
+use Rattle.rules.specs.World.{Tables}
+use Rattle.rules.specs.Answers.{Lent, lent, accepted, Reads, reading}
+use Rattle.promises.proofs.Reader as names
+use Rattle.promises.proofs.Listed.{print-lists}
+use Rattle.simulation.proofs.Said.{itemsIn, AsManyRows}
+use Rattle.simulation.proofs.Items.{entryOf}
+use Rattle.simulation.proofs.Whole.{accepted-by-names}
+use Rattle.simulation.proofs.Calls.{Call, saidBy, Again, call-reads-back}
+use Rattle.simulation.proofs.Left.{left-say}
+use Rattle.grammar.proofs.SoundItems.{accepted-sound}
+use Rattle.grammar.proofs.Weights.{text-weighs}
+use Rattle.grammar.proofs.Lengths.{items-long}
+
+pub printed-by-names : (e : Entry) (text : List ℕ) (xs : List Item) → names.reading (entryOf e) text ≡ names.accepted xs → length (printedAll xs) ≤ 2 * length text
+printed-by-names e text xs h =
+    let g = accepted-sound e text xs h in
+    let long = items-long (g .2) (print-lists (entryOf e) text xs h) in
+    omega (arith, text-weighs text (g .1))
+
+pub printed-length : (e : Entry) (text : List ℕ) (l : Lent) (t : Tables) → reading e text l ≡ accepted t → length (printedAll (itemsIn text t)) ≤ 2 * length text
+printed-length e text l t h = printed-by-names e text (itemsIn text t) (accepted-by-names e text l t h)
+
+pub call-printed-length : {e : Entry} (c : Call e) → length (printedAll (saidBy c)) ≤ 2 * length (c .text)
+call-printed-length {e} c =
+    let y = left-say e (c .text) (c .I) (c .S) (c .O) (c .A) (c .I′) (c .S′) (c .O′) (c .A′) (c .items) (c .statements) (c .operands) (c .attributes) (c .reads) in
+    rw (y .says) (printed-length e (c .text) _ (y .tables) (y .reads))
+
+-- So what is read from a text of at most 32,768 bytes prints to a text that is not too long, and reads back.
+pub short-reads-back : {e : Entry} (c : Call e) → length (c .text) ≤ 32768 → (I S O A : List ℕ) → AsManyRows (printedAll (saidBy c)) (lent I S O A)
+    → (r : Answer) (I′ S′ O′ A′ : List ℕ) → Reads e (printedAll (saidBy c)) I S O A r I′ S′ O′ A′ → Again (saidBy c) r I′ S′ O′ A′
+short-reads-back c h = let long = call-printed-length c in call-reads-back c (omega arith)

@@ -1,0 +1,1 @@
+// A grammar, and that reading accepts exactly its sentences. No code.
