@@ -17,7 +17,7 @@ returns : tie.Need-returns
 returns c = names.ill-formed _ _ _ _ _ _ _ (said-not (c .before .well-formed .ensures) (c .if1 .taken))
 
 returns-2 : tie.Need-returns-2
-returns-2 c = names.uncounted _ _ _ _ _ _ _ (c .if2 .taken)
+returns-2 c = names.uncounted _ _ _ _ _ _ _ (omega arith)
 
 cast-i : tie.Need-cast-i
 cast-i c = let small = counts-small _ _ _ _ _ _ (said-not-not (c .before .before .well-formed .ensures) (c .before .if1 .left)) in omega (arith, small .statements)

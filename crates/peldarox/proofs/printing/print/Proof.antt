@@ -1,6 +1,5 @@
 -- `peldarox::printing::print` meets its contract.
 -- Assumes nothing.
-use mathlib.Core.Path.{refl}
 use native.Mathlib.Omega.{arith}
 use Rattle.laws.proofs.Tests.{said-not, said-not-not}
 use Rattle.rules.specs.Prints.{wordsNeeded}
@@ -27,7 +26,7 @@ add-words-2 c = let small = counts-small _ _ _ _ _ _ (said-not-not (c .before .w
 
 returns-2 : tie.Need-returns-2
 unfolding wordsNeeded
-returns-2 c = prints.few-words _ _ _ _ _ _ _ _ (said-not-not (c .before .before .well-formed .ensures) (c .before .if1 .left)) refl (c .if2 .taken)
+returns-2 c = prints.few-words _ _ _ _ _ _ _ _ (said-not-not (c .before .before .well-formed .ensures) (c .before .if1 .left)) (omega arith) (omega arith)
 
 cast-print-items : tie.Need-cast-print-items
 cast-print-items c = let small = counts-small _ _ _ _ _ _ (said-not-not (c .before .before .well-formed .ensures) (c .before .if1 .left)) in omega (arith, small .items)
