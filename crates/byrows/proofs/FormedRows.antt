@@ -19,7 +19,7 @@ use Rattle.rules.specs.WellFormed as formed
 use Rattle.laws.proofs.Cases.{by-cases}
 use Rattle.laws.proofs.Same.{eq-same}
 use Rattle.laws.proofs.Tests.{and-left, and-right, cond-true, cond-false}
-use Rattle.listing.specs.References.{All, named, takesBlock, size, references, refers}
+use Rattle.listing.specs.References.{All, named, size, references, refers}
 use Rattle.listing.proofs.Members.{all-map, all-append}
 use Rattle.byrows.proofs.Views.{assigning, isCondition, isBare, Fit}
 use Rattle.byrows.proofs.Spans.{every-along}
@@ -172,10 +172,10 @@ module _ (text S O A : List ℕ) (lo i : ℕ) (ok : statementOk text S O A lo i 
 
   -- all that it refers to is an assignment before it, of the same item
   pub all-refer : All (Refers S lo i) (references S O i)
-  unfolding references operandsFit size takesBlock blockOk hasBlock
+  unfolding references operandsFit size blockOk
   all-refer =
-      all-append (Refers S lo i) (cond (takesBlock (row .code)) (row .block ∷ []) []) (named O (row .operands .first) (size S i))
-      (by-cases (takesBlock (row .code))
+      all-append (Refers S lo i) (cond (hasBlock (row .code)) (row .block ∷ []) []) (named O (row .operands .first) (size S i))
+      (by-cases (hasBlock (row .code))
       (λ e. subst (All (Refers S lo i)) (sym (cond-true _ (row .block ∷ []) [] e)) (refers-block S lo i (row .block) (picked _ _ _ e block-known), tt))
       (λ e. subst (All (Refers S lo i)) (sym (cond-false _ (row .block ∷ []) [] e)) tt))
       (operands-refer S O lo i (row .operands) (and-right (eqb (long (row .operands)) (arity S row)) (operandsOk S O lo i (row .operands)) operands-known) (size S i) refl)

@@ -15,9 +15,10 @@ use Rattle.rules.specs.Rows.{keywordCode, valueCode, bitsOf, lettersOf, nameAt,
 use Rattle.rules.specs.Syntax as syntax
 use Rattle.rules.specs.Syntax.{flat, ofOperand, ofSide, value, constant, assignment, pc, blockpc}
 use Rattle.rules.specs.View.{each, along, typingOf, asOperand, operandOf, attributeOf, asSide, asStatement, statementOf}
+use Rattle.rules.specs.WellFormed.{hasBlock}
 use Rattle.laws.proofs.Cases.{by-cases}
 use Rattle.laws.proofs.Tests.{cond-true, cond-false}
-use Rattle.listing.specs.References.{All, named, takesBlock, size, references, refers}
+use Rattle.listing.specs.References.{All, named, size, references, refers}
 use Rattle.byrows.proofs.Names.{Says}
 
 -- ---- codes
@@ -82,15 +83,15 @@ module _ (text S O A : List ℕ) (i : ℕ) where
   is k = eqb code (keywordCode k)
 
   -- what the row refers to, where it takes a block, and where it takes none
-  with-block : takesBlock code ≡ true → references S O i ≡ row .block ∷ named O (row .operands .first) (size S i)
+  with-block : hasBlock code ≡ true → references S O i ≡ row .block ∷ named O (row .operands .first) (size S i)
   unfolding references
   with-block e = ap (λ (l : List ℕ). l ++ named O (row .operands .first) (size S i)) (cond-true _ (row .block ∷ []) [] e)
 
-  no-block : takesBlock code ≡ false → references S O i ≡ named O (row .operands .first) (size S i)
+  no-block : hasBlock code ≡ false → references S O i ≡ named O (row .operands .first) (size S i)
   unfolding references
   no-block e = ap (λ (l : List ℕ). l ++ named O (row .operands .first) (size S i)) (cond-false _ (row .block ∷ []) [] e)
 
-  no-operands : takesBlock code ≡ false → size S i ≡ 0 → references S O i ≡ []
+  no-operands : hasBlock code ≡ false → size S i ≡ 0 → references S O i ≡ []
   no-operands e z = no-block e ∙ ap (named O (row .operands .first)) z
 
   -- the operands by name
@@ -108,12 +109,12 @@ module _ (text S O A : List ℕ) (i : ℕ) where
       ∙ ap (λ (n : ℕ). map name (named O (row .operands .first) n)) (sym z)
 
   -- a code that is one of a keyword's takes a block as that keyword does
-  takes : (k : ℕ) (b : Bool) → is k ≡ true → takesBlock (keywordCode k) ≡ b → takesBlock code ≡ b
-  takes k b e f = ap takesBlock (eqb-true code (keywordCode k) e) ∙ f
+  takes : (k : ℕ) (b : Bool) → is k ≡ true → hasBlock (keywordCode k) ≡ b → hasBlock code ≡ b
+  takes k b e f = ap hasBlock (eqb-true code (keywordCode k) e) ∙ f
 
   -- ---- the side of an assignment
   side-names : (isBare code ≡ true → size S i ≡ 0) → is keyword.blockpc ≡ false → ofSide (asSide text S O row) ≡ map name (references S O i)
-  unfolding asSide takesBlock
+  unfolding asSide hasBlock
   side-names bare nb =
       by-cases (is keyword.var) (λ e. ap ofSide (cond-true _ syntax.var after-var e) ∙ nothing keyword.var e refl (or-first _ e))
       (λ e1. ap ofSide (cond-false _ syntax.var after-var e1)
@@ -144,7 +145,7 @@ module _ (text S O A : List ℕ) (i : ℕ) where
       after-var : syntax.RightSide
       after-var = cond (is keyword.block) (syntax.block (row .number)) after-block
 
-      nothing : (k : ℕ) → is k ≡ true → takesBlock (keywordCode k) ≡ false → isBare code ≡ true → [] ≡ map name (references S O i)
+      nothing : (k : ℕ) → is k ≡ true → hasBlock (keywordCode k) ≡ false → isBare code ≡ true → [] ≡ map name (references S O i)
       nothing k e f b = ap (map name) (sym (no-operands (takes k false e f) (bare b)))
 
   -- ---- the statement
@@ -177,7 +178,7 @@ module _ (text S O A : List ℕ) (i : ℕ) where
   is-assignment e f = cond-false _ asPc (cond (is keyword.blockpc) asBlockpc asAssignment) e ∙ cond-false _ asBlockpc asAssignment f
 
   refers-names : (lo : ℕ) → Fit S O lo i → syntax.refers (statementOf text S O A i) ≡ map name (references S O i)
-  unfolding takesBlock
+  unfolding hasBlock
   refers-names lo f =
       by-cases (is keyword.pc)
       (λ e. ap syntax.refers (is-pc e) ∙ pair-names (f .two (or-first _ e)) ∙ ap (map name) (sym (no-block (takes keyword.pc false e refl))))

@@ -7,9 +7,10 @@ use native.Mathlib.Omega.{arith}
 use lib.Dec.{lit≤}
 use lib.ListN.{length}
 use Rattle.rules.specs.Rows.{operandLength, statementAt, operandAt}
+use Rattle.rules.specs.WellFormed.{hasBlock}
 use Rattle.listing.specs.Listing.{none, marked, listing}
 use Rattle.listing.specs.Machine.{trace, run}
-use Rattle.listing.specs.References.{All, takesBlock, size, references, refers, Sound}
+use Rattle.listing.specs.References.{All, size, references, refers, Sound}
 
 -- %0 = block 2, %1 = var, %2 = phi %0, %1, 7, %3 = add %2, %1, pc %3 %1
 abbrev statements : List ℕ
@@ -31,21 +32,21 @@ operands =
 
 -- a block before operands, and operands left to right
 one-root : listing (refers statements operands 5) 5 none (3 ∷ []) ≡ 0 ∷ 1 ∷ 2 ∷ 3 ∷ []
-unfolding refers references takesBlock size statementAt operandAt
+unfolding refers references hasBlock size statementAt operandAt
 one-root = refl
 
 two-roots : listing (refers statements operands 5) 5 none (1 ∷ 4 ∷ []) ≡ 1 ∷ 0 ∷ 2 ∷ 3 ∷ 4 ∷ []
-unfolding refers references takesBlock size statementAt operandAt
+unfolding refers references hasBlock size statementAt operandAt
 two-roots = refl
 
 -- what is listed already is not listed again
 second-root : listing (refers statements operands 5) 5 (marked none (1 ∷ [])) (4 ∷ []) ≡ 0 ∷ 2 ∷ 3 ∷ 4 ∷ []
-unfolding refers references takesBlock size statementAt operandAt
+unfolding refers references hasBlock size statementAt operandAt
 second-root = refl
 
 -- the search finds the same
 searched : run (refers statements operands 5) 5 none (trace 4 ∷ []) .listed ≡ 0 ∷ 1 ∷ 2 ∷ 3 ∷ 4 ∷ []
-unfolding refers references takesBlock size statementAt operandAt
+unfolding refers references hasBlock size statementAt operandAt
 searched = refl
 
 inside : (i : ℕ) → i < 5 → statementAt statements i .operands .past * operandLength ≤ length operands
@@ -58,7 +59,7 @@ inside (suc (suc (suc (suc zero)))) h = lit≤ tt
 inside (suc (suc (suc (suc (suc i))))) h = absurd (let n : ⊥ = omega arith in n)
 
 earlier : (i : ℕ) → i < 5 → All (λ j. j < i) (references statements operands i)
-unfolding references takesBlock size statementAt operandAt
+unfolding references hasBlock size statementAt operandAt
 earlier zero h = tt
 earlier (suc zero) h = tt
 earlier (suc (suc zero)) h = (lit≤ tt, (lit≤ tt, tt))

@@ -13,8 +13,9 @@ use lib.ListN.{length, getD, set, take, length-set}
 use lib.Seq.{take-set-le}
 use borrow.Author.Tests.{eq-eqb, ne-eqb}
 use Rattle.rules.specs.Rows.{valueCode, operandLength, statementLength, operandAt, statementAt}
+use Rattle.rules.specs.WellFormed.{hasBlock}
 use Rattle.laws.proofs.Cases.{by-cases}
-use Rattle.listing.specs.References.{All, named, takesBlock, size, references}
+use Rattle.listing.specs.References.{All, named, size, references}
 use Rattle.listing.specs.Machine.{Entry, trace, traces}
 use Rattle.listing.specs.Work.{stackOf, Pushed}
 use Rattle.listing.proofs.Words.{entry-trace, stack-push}
@@ -140,23 +141,23 @@ module _ (statements operands : List ℕ) (i : ℕ) where
   abbrev past : ℕ
   past = getD statements (at + 7) 0
 
-  references-block : takesBlock (getD statements at 0) ≡ true → references statements operands i ≡ getD statements (at + 5) 0 ∷ named operands first (past - first)
+  references-block : hasBlock (getD statements at 0) ≡ true → references statements operands i ≡ getD statements (at + 5) 0 ∷ named operands first (past - first)
   unfolding references statementAt size
   references-block e = rw (add-zero at, e)
 
-  references-named : takesBlock (getD statements at 0) ≡ false → references statements operands i ≡ named operands first (past - first)
+  references-named : hasBlock (getD statements at 0) ≡ false → references statements operands i ≡ named operands first (past - first)
   unfolding references statementAt size
   references-named e = rw (add-zero at, e)
 
   pub named-below : (n : ℕ) → All (λ j. j < n) (references statements operands i) → All (λ j. j < n) (named operands first (past - first))
   named-below n a =
-      by-cases (takesBlock (getD statements at 0)) (λ e. subst (All (λ j. j < n)) (references-block e) a .1) (λ e. subst (All (λ j. j < n)) (references-named e) a)
+      by-cases (hasBlock (getD statements at 0)) (λ e. subst (All (λ j. j < n)) (references-block e) a .1) (λ e. subst (All (λ j. j < n)) (references-named e) a)
 
-  pub block-below : (n : ℕ) → All (λ j. j < n) (references statements operands i) → takesBlock (getD statements at 0) ≡ true → getD statements (at + 5) 0 < n
+  pub block-below : (n : ℕ) → All (λ j. j < n) (references statements operands i) → hasBlock (getD statements at 0) ≡ true → getD statements (at + 5) 0 < n
   block-below n a e = subst (All (λ j. j < n)) (references-block e) a .0
 
   module _ (w₀ : List ℕ) (s depth : ℕ) (w : List ℕ) (t : ℕ) (p : Pushed (named operands first (past - first)) w₀ s depth (past - first) w t) where
-    pub pushed-block : takesBlock (getD statements at 0) ≡ true → s + t < length w
+    pub pushed-block : hasBlock (getD statements at 0) ≡ true → s + t < length w
         → Pushed (references statements operands i) w₀ s depth (past - first + 1) (set w (s + t) (2 * getD statements (at + 5) 0)) (t + 1)
     pushed-block e l =
         let b : ℕ = getD statements (at + 5) 0 in
@@ -171,7 +172,7 @@ module _ (statements operands : List ℕ) (i : ℕ) where
               ∙ ap (λ (rows : List ℕ). traces rows (stackOf w₀ s depth)) (sym (references-block e));
         }
 
-    pub pushed-named : takesBlock (getD statements at 0) ≡ false → Pushed (references statements operands i) w₀ s depth (past - first + 1) w t
+    pub pushed-named : hasBlock (getD statements at 0) ≡ false → Pushed (references statements operands i) w₀ s depth (past - first + 1) w t
     pushed-named e =
         record {
           fits = omega (arith, p .fits);

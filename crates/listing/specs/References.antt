@@ -1,12 +1,12 @@
 -- What a statement row refers to, by row numbers: a block before operands, operands left to right.
 -- Assumes nothing.
 use Prim.Native.Nat.{ℕ, zero, suc, _+_, _-_, _*_, _≤_, _<_}
-use mathlib.Core.Bool.{Bool, cond, _||_}
+use mathlib.Core.Bool.{cond}
 use mathlib.Core.List.{List, [], _∷_, _++_}
 use lib.Dec.{eqb, ltb}
 use lib.ListN.{length}
-use Rattle.rules.specs.Keywords.{phi, blockpc}
-use Rattle.rules.specs.Rows.{keywordCode, valueCode, statementLength, operandLength, statementAt, operandAt}
+use Rattle.rules.specs.Rows.{valueCode, statementLength, operandLength, statementAt, operandAt}
+use Rattle.rules.specs.WellFormed.{hasBlock}
 
 -- each element of a list passes
 abbrev pub All : {A : Type 0} → (A → Type 0) → List A → Type 0
@@ -17,10 +17,6 @@ All P (x ∷ l) = P x × All P l
 abbrev pub named : List ℕ → ℕ → ℕ → List ℕ
 named operands a zero = []
 named operands a (suc n) = cond (eqb (operandAt operands a .code) valueCode) (operandAt operands a .row ∷ named operands (suc a) n) (named operands (suc a) n)
-
--- whether a statement refers to a block
-unfoldable pub takesBlock : ℕ → Bool
-takesBlock code = eqb code (keywordCode phi) || eqb code (keywordCode blockpc)
 
 -- how many operand rows statement row i owns, and how many the first n do
 unfoldable pub size : List ℕ → ℕ → ℕ
@@ -33,7 +29,7 @@ owned statements (suc n) = owned statements n + size statements n
 -- what statement row i refers to
 unfoldable pub references : List ℕ → List ℕ → ℕ → List ℕ
 references statements operands i =
-    cond (takesBlock (statementAt statements i .code)) (statementAt statements i .block ∷ []) []
+    cond (hasBlock (statementAt statements i .code)) (statementAt statements i .block ∷ []) []
     ++ named operands (statementAt statements i .operands .first) (size statements i)
 
 -- the same where i is one of s counted rows; a row past them refers to none

@@ -6,7 +6,8 @@ ghost use mathlib.Core.Path.{_≡_};
 ghost use Prim.Native.Nat.{_+_, _-_, _*_, _≤_, _<_};
 ghost use lib.ListN.{length};
 ghost use Rattle.rules.specs.Rows.{statementLength, operandLength, statementAt};
-ghost use Rattle.listing.specs.References.{All, named, takesBlock, size, references};
+ghost use Rattle.rules.specs.WellFormed.{hasBlock};
+ghost use Rattle.listing.specs.References.{All, named, size, references};
 ghost use Rattle.listing.specs.Work.{Pushed};
 
 // Words of a statement row: the row of its block, the first of its operands, and the one past the last.
@@ -20,8 +21,8 @@ const PAST: usize = 7;
 const ROW: usize = 1;
 
 // Whether a statement of this code refers to a block.
-fn takes_block(kind: u32) -> bool
-    ensures { λ r. ⌜ r ≡ takesBlock kind ⌝ }
+fn has_block(kind: u32) -> bool
+    ensures { λ r. ⌜ r ≡ hasBlock kind ⌝ }
 {
     kind == code::PHI || kind == code::BLOCKPC
 }
@@ -72,7 +73,7 @@ pub fn push_references(
     let first = statements[at + FIRST];
     let past = statements[at + PAST];
     let t = push_operands(operands, work, base, depth, first, past);
-    if takes_block(statements[at]) {
+    if has_block(statements[at]) {
         work[base + t] = 2 * statements[at + BLOCK];
         return t + 1;
     }

@@ -1,31 +1,25 @@
 -- How long each piece is at most, where the text has at most 65,536 bytes and spans have at most 65,536 rows.
 -- Assumes nothing.
-use mathlib.Core.Path.{_≡_, refl, sym, ap, _∙_}
-use mathlib.Core.Bool.{Bool, true, false, cond, _&&_}
-use mathlib.Core.List.{List, [], _∷_, _++_}
-use Prim.Native.Nat.{ℕ, zero, suc, _+_, _-_, _*_, _^_, _≤_, _<_}
-use native.Mathlib.Nat.{le-refl, le-trans}
+use mathlib.Core.Path.{_≡_, ap, _∙_}
+use mathlib.Core.Bool.{Bool, true, false, cond}
+use mathlib.Core.List.{List, [], _++_}
+use Prim.Native.Nat.{ℕ, zero, suc, _+_, _-_, _*_, _^_, _≤_}
 use native.Mathlib.Omega.{arith}
-use borrow.Author.Tests.{leb-true}
-use lib.Dec.{eqb, leb}
-use lib.ListN.{length, take, drop, getD, length-append, length-take, length-drop}
-use Rattle.laws.proofs.Tests.{and-left, and-right}
+use lib.Dec.{eqb}
+use lib.ListN.{length, length-append, length-take, length-drop}
 use Rattle.rules.specs.declared.Span.{Span}
 use Rattle.rules.specs.declared.Operand.{Operand}
 use Rattle.rules.specs.declared.Attribute.{Attribute}
-use Rattle.rules.specs.declared.Statement.{Statement}
 use Rattle.rules.specs.Bytes.{bytes}
-use Rattle.rules.specs.Integers.{decimal}
-use Rattle.rules.specs.Instructions.{Instruction, _takes_, instructions, instructionName}
 use Rattle.rules.specs.Keywords as keyword
-use Rattle.rules.specs.Rows.{lettersOf, nameAt, bitsOf, statementAt, operandAt, attributeAt, keywordCode, valueCode, knownBitsCode, signBitsCode, demandedBitsCode}
+use Rattle.rules.specs.Rows.{lettersOf, nameAt, bitsOf, statementAt, operandAt, attributeAt, valueCode, knownBitsCode, signBitsCode, demandedBitsCode}
 use Rattle.rules.specs.Reading.{attributeCode}
 use Rattle.rules.specs.Syntax as syntax
-use Rattle.rules.specs.View.{each, along, typingOf, asOperand, operandOf, asAttribute, attributeOf, asRootAttribute, rootAttributeOf, asSide, asStatement, statementOf}
-use Rattle.rules.specs.Printing.{typing, operand, further, operands, side, attribute, rootAttribute, attributes, line, inferLine, resultLine, candLine}
+use Rattle.rules.specs.View.{each, along, typingOf, asOperand, operandOf, asAttribute, attributeOf, asRootAttribute, rootAttributeOf}
+use Rattle.rules.specs.Printing.{typing, operand, further, operands, attribute, rootAttribute, attributes}
 use Rattle.wide.proofs.Decimals.{decimal-most}
 use Rattle.pieces.specs.Bounds.{Few}
-use Rattle.pieces.proofs.Tails.{typing-tail, operand-tail, further-tail, operands-tail, side-tail, attribute-tail, root-attribute-tail, attributes-tail}
+use Rattle.pieces.proofs.Tails.{operand-tail, attribute-tail, root-attribute-tail}
 
 -- a choice of two is as short as both
 pub either : {A : Type 0} (f : A → List ℕ) (t : Bool) (x y : A) {m : ℕ} → length (f x) ≤ m → length (f y) ≤ m → length (f (cond t x y)) ≤ m
@@ -46,20 +40,6 @@ name-short text S i = letters-short text (statementAt S i .name)
 pub typing-short : (t : syntax.Typing) → length (typing t []) ≤ 42
 typing-short syntax.untyped = omega arith
 typing-short (syntax.typed w) = simp length-append (omega (arith, decimal-most w))
-
--- the longest instruction has 18 letters
-abbrev short-names : List Instruction → Bool
-short-names [] = true
-short-names (i ∷ l) = leb (length (i .name)) 18 && short-names l
-
-short-at : (l : List Instruction) (k : ℕ) → short-names l ≡ true → length (getD l k ("" takes 0) .name) ≤ 18
-short-at [] k e = omega arith
-short-at (i ∷ l) zero e = leb-true (length (i .name)) 18 (and-left _ (short-names l) e)
-short-at (i ∷ l) (suc k) e = short-at l k (and-right (leb (length (i .name)) 18) _ e)
-
-pub instruction-short : (k : ℕ) → length (instructionName k) ≤ 18
-unfolding instructionName
-instruction-short k = short-at instructions k refl
 
 pub constant-short : (c : ℕ) (t : syntax.Typing) → length (operand (syntax.constant c t) []) ≤ 82
 constant-short c t = simp length-append (omega (arith, decimal-most c, typing-short t))
@@ -84,7 +64,7 @@ long-short : (s : Span) → Few s → s .past - s .first ≤ 65536
 long-short s w = omega (arith, w .past)
 
 module _ (text : List ℕ) (h : length text ≤ 65536) where
-  name-most : (S : List ℕ) (i : ℕ) → length (nameAt text S i) ≤ 65536
+  pub name-most : (S : List ℕ) (i : ℕ) → length (nameAt text S i) ≤ 65536
   name-most S i = omega (arith, name-short text S i)
 
   as-operand-short : (S : List ℕ) (r : Operand) → length (operand (asOperand text S r) []) ≤ 65536
@@ -107,24 +87,6 @@ module _ (text : List ℕ) (h : length text ≤ 65536) where
 
   pub operands-most : (S O : List ℕ) (s : Span) → Few s → length (operands (along (operandOf text S O) s) []) ≤ 2 ^ 33
   operands-most S O s w = omega (arith, operands-short (operandOf text S O) (operand-short S O) (s .first) (s .past - s .first), long-short s w)
-
-  pub as-side-short : (S O : List ℕ) (r : Statement) → Few (r .operands) → length (side (asSide text S O r) []) ≤ 2 ^ 33 + 65560
-  unfolding asSide
-  as-side-short S O r w =
-      let l = along (operandOf text S O) (r .operands) in
-      let last = syntax.instruction (r .code - 1) l in
-      let inst = cond (eqb (r .code) (keywordCode keyword.reservedconst)) syntax.reservedconst last in
-      let fourth = cond (eqb (r .code) (keywordCode keyword.reservedinst)) syntax.reservedinst inst in
-      let third = cond (eqb (r .code) (keywordCode keyword.phi)) (syntax.phi (nameAt text S (r .block)) l) fourth in
-      let second = cond (eqb (r .code) (keywordCode keyword.block)) (syntax.block (r .number)) third in
-      let f : syntax.RightSide → List ℕ = λ s. side s [] in
-      either f (eqb (r .code) (keywordCode keyword.var)) syntax.var second (omega arith)
-      (either f (eqb (r .code) (keywordCode keyword.block)) (syntax.block (r .number)) third (simp length-append (omega (arith, decimal-most (r .number))))
-      (either f (eqb (r .code) (keywordCode keyword.phi)) (syntax.phi (nameAt text S (r .block)) l) fourth
-      (simp length-append (omega (arith, name-most S (r .block), further-most S O (r .operands) w)))
-      (either f (eqb (r .code) (keywordCode keyword.reservedinst)) syntax.reservedinst inst (omega arith)
-      (either f (eqb (r .code) (keywordCode keyword.reservedconst)) syntax.reservedconst last (omega arith)
-      (simp length-append (omega (arith, instruction-short (r .code - 1), operands-most S O (r .operands) w)))))))
 
   -- what stands between an attribute's parentheses
   as-attribute-short : (r : Attribute) → length (attribute (asAttribute text r) []) ≤ 65549

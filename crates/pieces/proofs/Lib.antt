@@ -4,6 +4,5 @@ pub mod Tails
 pub mod Chains
 pub mod Bounds
 pub mod Wholes
-pub mod Lines
 pub mod Seen
 pub mod Decimals

@@ -1,28 +1,26 @@
 -- Each whole as the pieces that it is written in, and a writer of the whole once the first of them is written.
 -- Assumes nothing.
-use mathlib.Core.Path.{_≡_, refl, sym, ap, _∙_}
+use mathlib.Core.Path.{_≡_, refl, ap, _∙_}
 use mathlib.Core.List.{List, [], _∷_, _++_, append-nil}
-use Prim.Native.Nat.{ℕ, zero, suc, _+_, _-_, _^_, _≤_, _<_}
+use Prim.Native.Nat.{ℕ, zero, suc, _+_, _-_, _≤_, _<_}
 use native.Mathlib.Omega.{arith}
 use borrow.Author.Tests.{ne-eqb}
 use lib.Dec.{eqb}
 use lib.ListN.{length, length-append}
-use Rattle.laws.proofs.Over.{written}
 use Rattle.laws.proofs.Pieces.{next, stop}
 use Rattle.laws.proofs.Tests.{cond-false}
 use Rattle.rules.specs.declared.Span.{Span}
 use Rattle.rules.specs.Bytes.{bytes}
 use Rattle.rules.specs.Integers.{decimal}
-use Rattle.rules.specs.Instructions.{instructionName}
 use Rattle.rules.specs.Out.{joined, Wrote}
-use Rattle.rules.specs.Rows.{_upTo_, lettersOf, nameAt}
+use Rattle.rules.specs.Rows.{_upTo_, lettersOf}
 use Rattle.rules.specs.Syntax as syntax
 use Rattle.rules.specs.View.{each, along, typingOf, operandOf, attributeOf, rootAttributeOf}
-use Rattle.rules.specs.Printing.{typing, operand, further, operands, side, attribute, rootAttribute, attributes}
+use Rattle.rules.specs.Printing.{typing, operand, further, operands, attribute, rootAttribute, attributes}
 use Rattle.wide.proofs.Decimals.{decimal-most}
 use Rattle.pieces.specs.Bounds.{Few}
 use Rattle.pieces.proofs.Tails.{operand-tail, further-tail, attribute-tail, root-attribute-tail, attributes-tail}
-use Rattle.pieces.proofs.Bounds.{letters-short, name-short, typing-short, instruction-short, operand-short, further-most, operands-most, attribute-short, root-attribute-short, attributes-most, root-attributes-most}
+use Rattle.pieces.proofs.Bounds.{letters-short, typing-short, operand-short, further-most, attribute-short, root-attribute-short, attributes-most, root-attributes-most}
 use Rattle.pieces.proofs.Chains.{Chain, chain-none, chain-first}
 
 -- Rows of a span, where a list is printed as its elements are, one after the other
@@ -91,9 +89,6 @@ module _ {b a : List ℕ} {r : ℕ} where
       chain-first (bytes "range=[") (decimal x ∷ bytes "," ∷ decimal y ∷ bytes ")" ∷ []) refl
       (simp length-append (omega (arith, decimal-most x, decimal-most y)))
 
-  pub block-begin : (k : ℕ) → Wrote (bytes "block ") b a r → Chain (side (syntax.block k) []) (decimal k ∷ []) b a r
-  block-begin k = chain-first (bytes "block ") (decimal k ∷ []) refl (simp length-append (omega (arith, decimal-most k)))
-
   -- the same of a text of at most 65,536 bytes
   module _ (text : List ℕ) (short : length text ≤ 65536) where
     pub known-bits-begin : (p : Span) → Wrote (bytes "knownBits=") b a r → Chain (attribute (syntax.knownBits (lettersOf text p)) []) (lettersOf text p ∷ []) b a r
@@ -138,15 +133,3 @@ module _ {b a : List ℕ} {r : ℕ} where
           ∙ ap (λ (l : List ℕ). bytes " " ++ l) (operand-tail (f (s .first)) (further (along f rest) []))
           ∙ simp append-nil)
           (simp length-append (omega (arith, operand-short text short S O (s .first), further-most text short S O rest (few-rest s w h))))
-
-      pub phi-begin : (i : ℕ) (s : Span) → Few s → Wrote (bytes "phi ") b a r
-          → Chain (side (syntax.phi (nameAt text S i) (along (operandOf text S O) s)) []) (nameAt text S i ∷ further (along (operandOf text S O) s) [] ∷ []) b a r
-      phi-begin i s w =
-          chain-first (bytes "phi ") (nameAt text S i ∷ further (along (operandOf text S O) s) [] ∷ []) (simp append-nil)
-          (simp length-append (omega (arith, name-short text S i, further-most text short S O s w)))
-
-      pub operation-begin : {n : ℕ} (k : ℕ) → n ≡ k → (s : Span) → Few s → Wrote (instructionName n) b a r
-          → Chain (side (syntax.instruction k (along (operandOf text S O) s)) []) (operands (along (operandOf text S O) s) [] ∷ []) b a r
-      operation-begin k e s w x =
-          chain-first (instructionName k) (operands (along (operandOf text S O) s) [] ∷ []) (simp append-nil)
-          (simp length-append (omega (arith, instruction-short k, operands-most text short S O s w))) (written (ap instructionName (sym e)) x)

@@ -16,7 +16,7 @@ use Rattle.rules.specs.Printing.{inferLine, resultLine, candLine, firstClosing,
 use Rattle.listing.specs.References.{named}
 use Rattle.pieces.specs.Bounds.{Few}
 use Rattle.pieces.proofs.Bounds.{either}
-use Rattle.pieces.proofs.Lines.{infer-short, result-short, cand-short}
+use Rattle.lines.proofs.Lines.{infer-short, result-short, cand-short}
 use Rattle.printer.specs.Rows.{firstRoots, secondRoots}
 
 module _ (O : List ℕ) (r : Item) where

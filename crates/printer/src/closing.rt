@@ -1,7 +1,7 @@
 // The closing lines of an item, by its kind.
-use pieces::closing::put_cand;
-use pieces::closing::put_infer;
-use pieces::closing::put_result;
+use lines::closing::put_cand;
+use lines::closing::put_infer;
+use lines::closing::put_result;
 use rules::Item;
 use rules::code;
 ghost use mathlib.Core.List.{List, []};

@@ -1,10 +1,10 @@
 // The lines of what roots reach: each statement after all it refers to, without those that have a mark, which each gets as it is listed.
+use lines::statement::put_line;
 use listing::Step;
 use listing::advance;
 use listing::begin;
 use output::least;
 use pieces::fields::operand_at;
-use pieces::statement::put_line;
 use rules::Item;
 use rules::code;
 ghost use mathlib.Core.List.{[], _∷_};

@@ -6,16 +6,17 @@ use Prim.Native.Nat.{_+_, _*_, _<_}
 use native.Mathlib.Omega.{arith}
 use lib.ListN.{length, getD}
 use Rattle.rules.specs.Rows.{statementLength, statementAt}
+use Rattle.rules.specs.WellFormed.{hasBlock}
 use Rattle.laws.proofs.Tests.{said}
-use Rattle.listing.specs.References.{takesBlock, size}
+use Rattle.listing.specs.References.{size}
 use Rattle.listing.proofs.Pushes.{named-below, block-below, pushed-block, pushed-named}
 use borrow.Author.Needs.{needs}
 use Rattle.listing.proofs.stack.push_references.Statement.{statement}
 use Rattle.listing.proofs.stack.push_references.Tie as tie
 
 -- the statement has a block, and the stack has room for it
-told : (c : tie.After-shared-slice-known6) → takesBlock (getD (c .before .before .before .before .before .before .before .before .before .before .before .before .before .args .statements .now) (c .before .before .before .before .before .before .before .before .before .before .before .before .before .args .row * statementLength) 0) ≡ true
-told c = said (c .before .before .takes-block .ensures) (c .before .if1 .taken)
+told : (c : tie.After-shared-slice-known6) → hasBlock (getD (c .before .before .before .before .before .before .before .before .before .before .before .before .before .args .statements .now) (c .before .before .before .before .before .before .before .before .before .before .before .before .before .args .row * statementLength) 0) ≡ true
+told c = said (c .before .before .has-block .ensures) (c .before .if1 .taken)
 
 fits : (c : tie.After-shared-slice-known6) → c .before .before .before .before .before .before .before .before .before .before .before .before .before .args .base + c .before .before .before .before .before .before .push-operands .result < length (c .before .before .before .before .before .before .push-operands .last .1 .0)
 unfolding statementAt size
@@ -48,14 +49,14 @@ push-operands-requires c κs =
     let a = c .before .before .before .before .before .before in
     (a .pre .1 .0, (omega arith, named-below _ _ (a .args .row) 65536 (a .pre .1 .1 .1)))
 
-mul-takes-block : tie.Need-mul-takes-block
-mul-takes-block c = search needs
+mul-has-block : tie.Need-mul-has-block
+mul-has-block c = search needs
 
-shared-slice-read-takes-block : tie.Need-shared-slice-read-takes-block
-shared-slice-read-takes-block c = search needs
+shared-slice-read-has-block : tie.Need-shared-slice-read-has-block
+shared-slice-read-has-block c = search needs
 
-takes-block-requires : tie.Need-takes-block-requires
-takes-block-requires c κs = search needs
+has-block-requires : tie.Need-has-block-requires
+has-block-requires c κs = search needs
 
 add-work : tie.Need-add-work
 add-work c = search needs
@@ -97,7 +98,7 @@ same-length-2 c = search needs
 returns-2 : tie.Need-returns-2
 unfolding statementAt size
 returns-2 c =
-    pushed-named _ _ (c .before .before .before .before .before .before .before .before .before .before .before .before .args .row) _ _ _ _ _ (c .before .before .before .before .before .push-operands .ensures) (said (c .before .takes-block .ensures) (c .if1 .left))
+    pushed-named _ _ (c .before .before .before .before .before .before .before .before .before .before .before .before .args .row) _ _ _ _ _ (c .before .before .before .before .before .push-operands .ensures) (said (c .before .has-block .ensures) (c .if1 .left))
 
 pub push-references-spec : {M : Type 1} → statement M
 push-references-spec =
@@ -111,9 +112,9 @@ push-references-spec =
     mul-past
     shared-slice-read-past
     push-operands-requires
-    mul-takes-block
-    shared-slice-read-takes-block
-    takes-block-requires
+    mul-has-block
+    shared-slice-read-has-block
+    has-block-requires
     add-work
     mul-work
     shared-slice-read-work

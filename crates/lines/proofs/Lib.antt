@@ -1,0 +1,5 @@
+-- Laws that belong to no one function. They assume nothing.
+pub mod Tails
+pub mod Seen
+pub mod Sides
+pub mod Lines
