@@ -1,5 +1,5 @@
 //! Links the proved library where it has been built: `rt staticlib peldarox` writes it to target/staticlib of the repository.
-//! PELDAROX_ARCHIVE names another archive. Without one, the crate and the model are compared alone.
+//! PELDAROX_ARCHIVE names another archive. Without one for this machine, the crate and the model are compared alone.
 use std::{env, fs, path::Path, path::PathBuf};
 
 fn main() {
@@ -15,8 +15,12 @@ fn main() {
     if !names(&bytes, "peldarox_read_replacements") {
         return;
     }
+    if !is_for_this_machine(&bytes) {
+        println!("cargo:warning={} is for another machine, and not linked", archive.display());
+        return;
+    }
     println!("cargo:rustc-cfg=ours");
-    if names(&bytes, "peldarox_print") {
+    if names(&bytes, "peldarox_print") && names(&bytes, "peldarox_name") {
         println!("cargo:rustc-cfg=ours_print");
     }
     println!("cargo:rustc-link-search=native={}", archive.parent().unwrap().display());
@@ -25,6 +29,19 @@ fn main() {
 
 /// Whether an archive has a symbol of this name.
 fn names(archive: &[u8], symbol: &str) -> bool {
-    let wanted = format!("\0{}\0", symbol).into_bytes();
-    archive.windows(wanted.len()).any(|part| part == wanted)
+    find(archive, format!("{}\0", symbol).as_bytes()).is_some()
+}
+
+/// Whether an archive's first object is for the machine that is compiled for.
+fn is_for_this_machine(archive: &[u8]) -> bool {
+    let machine = match env::var("CARGO_CFG_TARGET_ARCH").as_deref() {
+        Ok("x86_64") => 62,
+        Ok("aarch64") => 183,
+        _ => return false,
+    };
+    find(archive, b"\x7FELF").is_some_and(|at| archive.get(at + 18) == Some(&machine))
+}
+
+fn find(bytes: &[u8], wanted: &[u8]) -> Option<usize> {
+    bytes.windows(wanted.len()).position(|part| part == wanted)
 }

@@ -28,6 +28,11 @@ pub const BAD_INTEGER: u64 = 5;
 pub const BAD_NAME: u64 = 6;
 pub const NO_ROW: u64 = 7;
 
+/// And those of a print.
+pub const NOT_WELL_FORMED: u64 = 8;
+pub const WORK_TOO_SHORT: u64 = 9;
+pub const OUTPUT_TOO_SHORT: u64 = 10;
+
 /// How many different numbers a reading answers.
 pub const NUMBERS: usize = 8;
 

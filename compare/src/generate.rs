@@ -28,10 +28,16 @@ pub fn text(random: &mut Random, entry: Entry, slips: usize) -> Vec<u8> {
     author.text
 }
 
+/// One item of so many statements, or of as many as fit so many bytes.
+pub fn one_item(random: &mut Random, bytes: usize, statements: usize) -> Vec<u8> {
+    let mut author = plain_author(random);
+    author.chained_item(statements, bytes);
+    author.text
+}
+
 /// Items of some statements each, with no slips and single spaces, until a text has nearly so many bytes.
 pub fn long_text(random: &mut Random, bytes: usize, statements: std::ops::Range<usize>) -> Vec<u8> {
-    let mut author =
-        Author { random, text: vec![], last: String::new(), spacing: Spacing::Single, slips: 0, scope: vec![] };
+    let mut author = plain_author(random);
     while author.text.len() < bytes {
         let before = author.text.len();
         let count = statements.start + author.random.below(statements.len());
@@ -42,6 +48,24 @@ pub fn long_text(random: &mut Random, bytes: usize, statements: std::ops::Range<
         }
     }
     author.text
+}
+
+/// One item of as many statements as fit so many bytes, each of which refers to the one before it.
+pub fn short_statements(bytes: usize) -> Vec<u8> {
+    let letter = |number: usize| (b'a' + (number % 26) as u8) as char;
+    let name = |number: usize| format!("%{}{}{}", letter(number / 676), letter(number / 26), letter(number));
+    let mut text = format!("{}=var", name(0));
+    let mut last = 0;
+    while text.len() + 30 < bytes {
+        text += &format!("{}=zext{}", name(last + 1), name(last));
+        last += 1;
+    }
+    text += &format!(" cand {} 1", name(last));
+    text.into_bytes()
+}
+
+fn plain_author(random: &mut Random) -> Author<'_> {
+    Author { random, text: vec![], last: String::new(), spacing: Spacing::Single, slips: 0, scope: vec![] }
 }
 
 struct Author<'r> {

@@ -1,19 +1,31 @@
 //! Compares three readers and printers of Souper IR: the crate souper-ir, a model written from document 01, and the proved
 //! library where it is linked.
 pub mod answer;
+pub mod counting;
 pub mod damage;
 pub mod generate;
+pub mod judge;
 pub mod lexer;
 pub mod library;
+pub mod memory;
 pub mod model;
 pub mod oracle;
+pub mod our_prints;
+pub mod our_reads;
 pub mod ours;
 pub mod printing;
 pub mod random;
 pub mod reader;
+pub mod rows;
 pub mod run;
 pub mod sample;
+pub mod sample_prints;
 pub mod settled;
 pub mod short;
 pub mod speed;
+pub mod table_damage;
+pub mod table_limits;
+pub mod table_run;
+pub mod tables;
 pub mod vocabulary;
+pub mod wellformed;

@@ -1,47 +1,17 @@
-//! The proved library's calls from C, where it is linked, and the memory that is lent to them.
+//! The proved library's calls from C, where it is linked. include/peldarox.h has their promises.
 use crate::answer::*;
 
 /// Whether the library's readers are linked.
 pub const READS: bool = cfg!(ours);
 
-/// Whether the library's printer is linked.
+/// Whether the library's printer, and the call for a name, are linked.
 pub const PRINTS: bool = cfg!(ours_print);
 
-/// What stands in lent memory before a call, and behind it after one.
-pub const JUNK: u32 = 0xA5C3_0FF1;
+/// What every call reports.
+pub type Report = [u64; 6];
 
-/// How many words or bytes behind lent memory are watched.
-pub const WATCHED: usize = 4;
-
-/// The four tables, junk at first, with some words watched behind each.
-pub struct Lent {
-    memory: [Vec<u32>; 4],
-    words: [usize; 4],
-}
-
-impl Lent {
-    /// Tables of these capacities; each has some words more, too few for a row.
-    pub fn new(capacities: Rows, more: usize) -> Self {
-        let words =
-            std::array::from_fn(|table| capacities[table] as usize * ROW_WORDS[table] + more % ROW_WORDS[table]);
-        Lent { memory: words.map(|words| vec![JUNK; words + WATCHED]), words }
-    }
-
-    /// What is wrong with the words that a reading of this answer left.
-    pub fn wrong(&self, answer: Answer) -> Option<String> {
-        for table in 0..4 {
-            let (lent, behind) = self.memory[table].split_at(self.words[table]);
-            if behind.iter().any(|word| *word != JUNK) {
-                return Some(format!("table {}: written past its end", table));
-            }
-            let used = answer.counts[table] as usize * ROW_WORDS[table];
-            if let Some(word) = lent[used.min(lent.len())..].iter().position(|word| *word != 0) {
-                return Some(format!("table {}: unused word {} is not 0", table, used + word));
-            }
-        }
-        None
-    }
-}
+/// What stands in a report before a call.
+const UNTOLD: u64 = 0xA5C3_0FF1_5EED_1E55;
 
 #[cfg(ours)]
 #[rustfmt::skip]
@@ -76,55 +46,89 @@ extern "C" {
         attribute_words: usize, item_count: u64, statement_count: u64, operand_count: u64, attribute_count: u64,
         work: *mut u32, work_words: usize, output: *mut u8, output_bytes: usize, report: *mut u64,
     );
+    #[cfg(ours_print)]
+    fn peldarox_name(
+        text: *const u8, text_bytes: usize, items: *const u32, item_words: usize, statements: *const u32,
+        statement_words: usize, operands: *const u32, operand_words: usize, attributes: *const u32,
+        attribute_words: usize, item_count: u64, statement_count: u64, operand_count: u64, attribute_count: u64,
+        row: u64, report: *mut u64,
+    );
 }
 
 /// The library's report of reading a text into lent tables.
 #[cfg(ours)]
 #[rustfmt::skip]
-pub fn read(entry: Entry, text: &[u8], lent: &mut Lent) -> [u64; 6] {
+pub fn read(entry: Entry, text: &[u8], tables: [&mut [u32]; 4]) -> Report {
     let reader: Reader = match entry {
         Entry::Replacements => peldarox_read_replacements,
         Entry::LeftHandSides => peldarox_read_left_hand_sides,
         Entry::RightHandSides => peldarox_read_right_hand_sides,
     };
-    let mut report = [JUNK as u64; 6];
-    let words = lent.words;
-    let [items, statements, operands, attributes] = &mut lent.memory;
-    // SAFETY: every pointer is to as many words or bytes as the length behind it says; report is to six words.
+    let mut report = [UNTOLD; 8];
+    let [items, statements, operands, attributes] = tables;
+    // SAFETY: every pointer is to as many words or bytes as the length behind it says; report is to eight words.
     unsafe {
         reader(
-            text.as_ptr(), text.len(), items.as_mut_ptr(), words[ITEMS], statements.as_mut_ptr(), words[STATEMENTS],
-            operands.as_mut_ptr(), words[OPERANDS], attributes.as_mut_ptr(), words[ATTRIBUTES], report.as_mut_ptr(),
+            text.as_ptr(), text.len(), items.as_mut_ptr(), items.len(), statements.as_mut_ptr(), statements.len(),
+            operands.as_mut_ptr(), operands.len(), attributes.as_mut_ptr(), attributes.len(), report[1..].as_mut_ptr(),
         )
     }
-    report
+    told(report)
+}
+
+/// The library's report of printing tables of these counts.
+#[cfg(ours_print)]
+#[rustfmt::skip]
+pub fn print(text: &[u8], tables: [&[u32]; 4], counts: Rows, work: &mut [u32], output: &mut [u8]) -> Report {
+    let mut report = [UNTOLD; 8];
+    let [items, statements, operands, attributes] = tables;
+    // SAFETY: every pointer is to as many words or bytes as the length behind it says; report is to eight words.
+    unsafe {
+        peldarox_print(
+            text.as_ptr(), text.len(), items.as_ptr(), items.len(), statements.as_ptr(), statements.len(),
+            operands.as_ptr(), operands.len(), attributes.as_ptr(), attributes.len(), counts[ITEMS],
+            counts[STATEMENTS], counts[OPERANDS], counts[ATTRIBUTES], work.as_mut_ptr(), work.len(),
+            output.as_mut_ptr(), output.len(), report[1..].as_mut_ptr(),
+        )
+    }
+    told(report)
+}
+
+/// The library's report of the name of a statement row of tables of these counts.
+#[cfg(ours_print)]
+#[rustfmt::skip]
+pub fn name(text: &[u8], tables: [&[u32]; 4], counts: Rows, row: u64) -> Report {
+    let mut report = [UNTOLD; 8];
+    let [items, statements, operands, attributes] = tables;
+    // SAFETY: every pointer is to as many words or bytes as the length behind it says; report is to eight words.
+    unsafe {
+        peldarox_name(
+            text.as_ptr(), text.len(), items.as_ptr(), items.len(), statements.as_ptr(), statements.len(),
+            operands.as_ptr(), operands.len(), attributes.as_ptr(), attributes.len(), counts[ITEMS],
+            counts[STATEMENTS], counts[OPERANDS], counts[ATTRIBUTES], row, report[1..].as_mut_ptr(),
+        )
+    }
+    told(report)
+}
+
+/// The six words of a report, which stands between two that must not change.
+#[cfg(ours)]
+fn told(report: [u64; 8]) -> Report {
+    assert_eq!((report[0], report[7]), (UNTOLD, UNTOLD), "written beside the report");
+    std::array::from_fn(|word| report[word + 1])
 }
 
 #[cfg(not(ours))]
-pub fn read(_: Entry, _: &[u8], _: &mut Lent) -> [u64; 6] {
+pub fn read(_: Entry, _: &[u8], _: [&mut [u32]; 4]) -> Report {
     unreachable!("the library is not linked")
 }
 
-/// The library's report of printing tables.
-#[cfg(ours_print)]
-#[rustfmt::skip]
-pub fn print(text: &[u8], lent: &Lent, counts: Rows, work: &mut [u32], output: &mut [u8]) -> [u64; 6] {
-    let mut report = [JUNK as u64; 6];
-    let words = lent.words;
-    let [items, statements, operands, attributes] = &lent.memory;
-    // SAFETY: every pointer is to as many words or bytes as the length behind it says; report is to six words.
-    unsafe {
-        peldarox_print(
-            text.as_ptr(), text.len(), items.as_ptr(), words[ITEMS], statements.as_ptr(), words[STATEMENTS],
-            operands.as_ptr(), words[OPERANDS], attributes.as_ptr(), words[ATTRIBUTES], counts[ITEMS],
-            counts[STATEMENTS], counts[OPERANDS], counts[ATTRIBUTES], work.as_mut_ptr(), work.len(),
-            output.as_mut_ptr(), output.len(), report.as_mut_ptr(),
-        )
-    }
-    report
+#[cfg(not(ours_print))]
+pub fn print(_: &[u8], _: [&[u32]; 4], _: Rows, _: &mut [u32], _: &mut [u8]) -> Report {
+    unreachable!("the library's printer is not linked")
 }
 
 #[cfg(not(ours_print))]
-pub fn print(_: &[u8], _: &Lent, _: Rows, _: &mut [u32], _: &mut [u8]) -> [u64; 6] {
+pub fn name(_: &[u8], _: [&[u32]; 4], _: Rows, _: u64) -> Report {
     unreachable!("the library's printer is not linked")
 }

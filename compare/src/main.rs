@@ -1,13 +1,17 @@
 //! The command line: run, sample, tokens, speed.
+use compare::counting::Counting;
 use compare::{lexer, run, sample, speed};
 use std::io::Read;
 use std::{env, path::Path, process::exit};
 
+#[global_allocator]
+static ALLOCATOR: Counting = Counting;
+
 const USAGE: &str = "\
-compare run [--texts N] [--seed S] [--tokens K]   compare many texts; status 1 where any differ
-compare sample [FOLDER]                           write the fixed sample to FOLDER/stdin and FOLDER/stdout
-compare tokens                                    show the tokens of standard input, KIND FIRST PAST
-compare speed [--rounds N]                        time reading and printing";
+compare run [--texts N] [--tables M] [--seed S] [--tokens K]   compare many texts and damaged tables; status 1 where any differ
+compare sample [FOLDER]                                        write the fixed sample to FOLDER/stdin and FOLDER/stdout
+compare tokens                                                 show the tokens of standard input, KIND FIRST PAST
+compare speed [--rounds N]                                     time reading and printing";
 
 fn main() {
     let words: Vec<String> = env::args().skip(1).collect();
@@ -17,6 +21,7 @@ fn main() {
                 texts: option(&words, "--texts", 200_000),
                 seed: option(&words, "--seed", 1),
                 tokens: option(&words, "--tokens", 2) as usize,
+                tables: option(&words, "--tables", 200_000),
             };
             exit(if run::run(&plan) == 0 { 0 } else { 1 })
         }
@@ -28,7 +33,7 @@ fn main() {
             }
         }
         Some("tokens") => tokens(),
-        Some("speed") => speed::speed(option(&words, "--rounds", 300) as usize),
+        Some("speed") => speed::speed(option(&words, "--rounds", 100) as usize),
         _ => {
             eprintln!("{}", USAGE);
             exit(2)

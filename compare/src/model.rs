@@ -40,6 +40,8 @@ impl Reading<'_> {
 #[derive(Debug)]
 pub struct Item<'t> {
     pub statements: Vec<Statement<'t>>,
+    /// How many statements stand before the first closing line.
+    pub middle: usize,
     pub closing: Closing<'t>,
 }
 
@@ -62,8 +64,8 @@ pub struct Infer<'t> {
 #[derive(Debug)]
 pub enum Statement<'t> {
     Assignment { name: &'t [u8], width: Option<u64>, value: Value<'t>, attributes: Vec<Attribute<'t>> },
-    Pc,
-    BlockPc,
+    Pc([Operand<'t>; 2]),
+    BlockPc(&'t [u8], u64, [Operand<'t>; 2]),
 }
 
 #[derive(Debug)]

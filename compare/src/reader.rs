@@ -174,6 +174,7 @@ impl<'t> Reader<'t> {
     fn item(&mut self, entry: Entry) -> Read<Item<'t>> {
         let mut statements = vec![];
         self.statements(&mut statements)?;
+        let middle = statements.len();
         let closing = match entry {
             Entry::LeftHandSides => Closing::Infer(self.infer()?),
             Entry::RightHandSides => Closing::Result(self.result()?),
@@ -184,7 +185,7 @@ impl<'t> Reader<'t> {
             }
             Entry::Replacements => self.cand()?,
         };
-        Ok(Item { statements, closing })
+        Ok(Item { statements, middle, closing })
     }
 
     fn infer(&mut self) -> Read<Infer<'t>> {
@@ -287,18 +288,14 @@ impl<'t> Reader<'t> {
 
     fn pc(&mut self) -> Read<Statement<'t>> {
         self.demand_word(b"pc")?;
-        self.operand()?;
-        self.operand()?;
-        Ok(Statement::Pc)
+        Ok(Statement::Pc([self.operand()?, self.operand()?]))
     }
 
     fn blockpc(&mut self) -> Read<Statement<'t>> {
         self.demand_word(b"blockpc")?;
-        self.block_name()?;
-        self.unsigned(32)?;
-        self.operand()?;
-        self.operand()?;
-        Ok(Statement::BlockPc)
+        let (name, _) = self.block_name()?;
+        let number = self.unsigned(32)?;
+        Ok(Statement::BlockPc(name, number, [self.operand()?, self.operand()?]))
     }
 
     fn operand(&mut self) -> Read<Operand<'t>> {

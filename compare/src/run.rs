@@ -1,7 +1,10 @@
 //! Compares the crate, the model and, where it is linked, the proved library on many texts.
 use crate::answer::*;
-use crate::{damage, generate, library, model, oracle, ours, printing, random::Random, settled, short};
+use crate::judge::LIBRARY;
+use crate::memory::{Memory, CASE};
+use crate::{damage, generate, library, model, oracle, ours, printing, random::Random, settled, short, table_run};
 use std::panic::{catch_unwind, AssertUnwindSafe};
+use std::sync::atomic::Ordering;
 
 /// How many differences are shown.
 const SHOWN: u64 = 20;
@@ -12,27 +15,39 @@ pub struct Plan {
     pub seed: u64,
     /// Tokens of the longest of the texts that are tried exhaustively.
     pub tokens: usize,
+    /// How many damaged tables are compared.
+    pub tables: u64,
 }
 
 /// What has been compared so far.
-#[derive(Default)]
-pub struct Tally {
-    pub texts: u64,
-    pub by_number: [[u64; NUMBERS]; 3],
-    pub claims: u64,
-    pub differences: u64,
+struct Tally {
+    texts: u64,
+    by_number: [[u64; NUMBERS]; 3],
+    claims: u64,
+    differences: u64,
+    memory: Memory,
 }
 
-/// Compares all texts of a plan; answers how many readings differ.
+/// Compares all texts and tables of a plan; answers how many differ.
 pub fn run(plan: &Plan) -> u64 {
     std::panic::set_hook(Box::new(|_| {}));
-    let mut tally = Tally::default();
+    let mut tally = Tally { texts: 0, by_number: Default::default(), claims: 0, differences: 0, memory: Memory::new() };
     tally.stage("settled examples", settled_texts);
     tally.stage("long texts", long_texts);
     tally.stage("short texts of bytes", |tally| short::byte_texts(&mut vec![], 4, &mut |text| tally.compare(text)));
     tally.stage("short texts of tokens", |tally| short::token_texts(plan.tokens, &mut |text| tally.compare(text)));
     tally.stage("texts by the grammar, whole and damaged", |tally| random_texts(plan, tally));
     tally.show();
+    tally.differences + damaged_tables(plan, &mut tally.memory)
+}
+
+/// Compares damaged tables; answers how many differ.
+fn damaged_tables(plan: &Plan, memory: &mut Memory) -> u64 {
+    let calls = library::PRINTS.then_some(LIBRARY);
+    let tally = table_run::run(plan.tables, plan.seed, calls, memory);
+    let linked = if library::PRINTS { "model and the library" } else { "the library's printer is not linked" };
+    println!("\n{} damaged tables, {} of them well formed", tally.tables, tally.well_formed);
+    println!("compared: {}\ndifferences: {}", linked, tally.differences);
     tally.differences
 }
 
@@ -115,15 +130,16 @@ impl Tally {
     }
 
     /// Compares a text at each entry point.
-    pub fn compare(&mut self, text: &[u8]) {
+    fn compare(&mut self, text: &[u8]) {
         self.texts += 1;
+        CASE.store(self.texts, Ordering::Relaxed);
         for entry in ENTRIES {
             let reading = model::read(entry, text);
             self.claims += reading.claims.len() as u64;
-            if let Some(difference) = difference(entry, text, &reading) {
+            if let Some(difference) = difference(entry, text, &reading, &mut self.memory) {
                 self.differences += 1;
                 if self.differences <= SHOWN {
-                    show_difference(entry, text, &difference);
+                    show_difference(entry, text, &difference, &mut self.memory);
                 }
             }
             let number = (reading.end.number as usize).min(NUMBERS - 1);
@@ -148,7 +164,7 @@ impl Tally {
 }
 
 /// How the readings of a text differ, if they do.
-pub fn difference(entry: Entry, text: &[u8], reading: &model::Reading) -> Option<String> {
+pub fn difference(entry: Entry, text: &[u8], reading: &model::Reading, memory: &mut Memory) -> Option<String> {
     let Ok(said) = catch_unwind(AssertUnwindSafe(|| oracle::read(entry, text))) else {
         return Some("the crate panics".to_string());
     };
@@ -166,27 +182,27 @@ pub fn difference(entry: Entry, text: &[u8], reading: &model::Reading) -> Option
             return Some(format!("the crate's print {:?} is not printed alike when it is read", said.print));
         }
     }
-    ours::wrong(entry, text, reading, said.print.as_bytes())
+    ours::wrong(entry, text, reading, said.print.as_bytes(), memory)
 }
 
-fn show_difference(entry: Entry, text: &[u8], difference: &str) {
-    let small = smallest(entry, text);
+fn show_difference(entry: Entry, text: &[u8], difference: &str, memory: &mut Memory) {
+    let small = smallest(entry, text, memory);
     println!("{} {:?}: {}", entry.letter(), String::from_utf8_lossy(&small), difference);
     if small != text {
         let reading = model::read(entry, &small);
-        println!("    smallest: {}", self::difference(entry, &small, &reading).unwrap());
+        println!("    smallest: {}", self::difference(entry, &small, &reading, memory).unwrap_or_default());
     }
 }
 
 /// A text that differs too, of which no byte can be left out.
-fn smallest(entry: Entry, text: &[u8]) -> Vec<u8> {
+fn smallest(entry: Entry, text: &[u8], memory: &mut Memory) -> Vec<u8> {
     let mut small = text.to_vec();
     let mut at = 0;
     while at < small.len() && text.len() < 2000 {
         let mut shorter = small.clone();
         shorter.remove(at);
         let reading = model::read(entry, &shorter);
-        if self::difference(entry, &shorter, &reading).is_some() {
+        if self::difference(entry, &shorter, &reading, memory).is_some() {
             small = shorter;
             at = 0;
         } else {

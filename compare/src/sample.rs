@@ -1,9 +1,11 @@
-//! A fixed sample of readings, with their answers, that a program replays from standard input.
+//! A fixed sample of readings, with their answers, that a program replays from standard input; `sample_prints` has its lines
+//! about prints and names.
 //!
 //! A line asks `ENTRY ITEMS STATEMENTS OPERANDS ATTRIBUTES HEX`: the entry point's letter, four capacities in rows, and the
 //! text, two hexadecimal digits a byte (none for the empty text). Its answer is the line `NUMBER PLACE ITEMS STATEMENTS
 //! OPERANDS ATTRIBUTES`.
 use crate::answer::*;
+use crate::sample_prints::{self, hex};
 use crate::{damage, generate, model, oracle, random::Random, settled};
 use std::collections::HashSet;
 use std::{fs, io, path::Path};
@@ -12,7 +14,7 @@ use std::{fs, io, path::Path};
 const SHORT: usize = 110;
 
 /// How many readings of each number are taken by chance.
-const WANTED: [usize; NUMBERS] = [450, 0, 150, 250, 400, 200, 250, 700];
+const WANTED: [usize; NUMBERS] = [290, 0, 110, 170, 260, 140, 170, 430];
 
 /// A question, and its answer.
 pub struct Asked {
@@ -39,15 +41,18 @@ pub fn sample() -> Vec<Asked> {
 /// Writes the sample's questions to the file `stdin` of a folder, and the answers to `stdout`.
 pub fn write(folder: &Path) -> io::Result<()> {
     let asked = sample();
+    let prints = sample_prints::sample();
+    let questions = asked.iter().map(question).chain(prints.iter().map(|line| line.question.clone()));
+    let answers = asked.iter().map(answer).chain(prints.iter().map(|line| line.answer.clone()));
     fs::create_dir_all(folder)?;
-    fs::write(folder.join("stdin"), asked.iter().map(question).collect::<String>())?;
-    fs::write(folder.join("stdout"), asked.iter().map(answer).collect::<String>())
+    fs::write(folder.join("stdin"), questions.collect::<String>())?;
+    fs::write(folder.join("stdout"), answers.collect::<String>())
 }
 
 pub fn question(asked: &Asked) -> String {
     let [items, statements, operands, attributes] = asked.capacities;
-    let hex: String = asked.text.iter().map(|byte| format!("{:02x}", byte)).collect();
-    format!("{} {} {} {} {} {}\n", asked.entry.letter(), items, statements, operands, attributes, hex)
+    let letter = asked.entry.letter();
+    format!("{} {} {} {} {} {}\n", letter, items, statements, operands, attributes, hex(&asked.text))
 }
 
 pub fn answer(asked: &Asked) -> String {
@@ -129,15 +134,17 @@ mod tests {
     #[test]
     fn the_sample_covers_every_number_and_is_small() {
         let asked = sample();
-        assert!(asked.len() >= 2000);
+        assert!(asked.len() >= 1800);
         for number in 0..NUMBERS as u64 {
             assert!(asked.iter().any(|one| one.answer.number == number), "no answer {}", number);
         }
         for entry in ENTRIES {
             assert!(asked.iter().filter(|one| one.entry == entry).count() > 300);
         }
-        let bytes: usize = asked.iter().map(|one| question(one).len() + answer(one).len()).sum();
-        assert!(bytes < 600_000, "{} bytes", bytes);
+        let prints = sample_prints::sample();
+        let bytes = asked.iter().map(|one| question(one).len()).sum::<usize>();
+        let of_prints = prints.iter().map(|line| line.question.len()).sum::<usize>();
+        assert!(bytes + of_prints <= 524_288, "{} and {} bytes", bytes, of_prints);
         assert_eq!(differences(&asked), 0);
     }
 }

@@ -1,15 +1,16 @@
 //! Document 01's settled examples, by the crate and by the model.
 use compare::answer::*;
-use compare::{model, oracle, ours, printing, run, settled};
+use compare::{memory::Memory, model, oracle, printing, run, settled};
 
 #[test]
 fn examples_and_traps_are_answered_by_crate_and_model() {
+    let mut memory = Memory::new();
     for (entry, text, number, place) in settled::EXAMPLES.iter().chain(&settled::TRAPS) {
         let said = oracle::read(*entry, text.as_bytes()).answer;
         let reading = model::read(*entry, text.as_bytes());
         assert_eq!((said.number, said.place), (*number, *place), "crate, {}", text);
         assert_eq!(reading.end, said, "model, {}", text);
-        assert_eq!(run::difference(*entry, text.as_bytes(), &reading), None, "{}", text);
+        assert_eq!(run::difference(*entry, text.as_bytes(), &reading, &mut memory), None, "{}", text);
     }
 }
 
@@ -22,7 +23,8 @@ fn the_whole_print() {
     assert_eq!(reading.answer(ENOUGH), said.answer);
     assert_eq!(reading.answer([9, 3, 9, 9]), Answer::refused(NO_ROW, 42));
     assert_eq!(printing::print(&reading.items), said.print.as_bytes());
-    assert_eq!(ours::wrong(Entry::Replacements, settled::WHOLE.as_bytes(), &reading, said.print.as_bytes()), None);
+    let whole = settled::WHOLE.as_bytes();
+    assert_eq!(run::difference(Entry::Replacements, whole, &reading, &mut Memory::new()), None);
 }
 
 #[test]

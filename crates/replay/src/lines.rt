@@ -3,34 +3,35 @@ ghost use Prim.Native.Nat.{_≤_, _<_};
 ghost use lib.ListN.{length};
 ghost use Rattle.io.specs.Counts.{Counts};
 
-// How many rows a table has, and where the next field begins.
-pub struct Room {
-    pub rows: usize,
+// A number of a line, and where the next field begins.
+pub struct Field {
+    pub value: usize,
     pub past: usize,
 }
 
-// The letter of the entry point.
-pub fn entry(line: &[u8]) -> u8 {
-    if line.len() == 0 {
-        return 0;
+// The letter at a place; 0 past the end.
+pub fn letter(line: &[u8], at: usize) -> u8 {
+    if at < line.len() {
+        return line[at];
     }
-    line[0]
+    0
 }
 
-// The capacity that is written from a place on; 15 rows at most.
-pub fn capacity(line: &[u8], at: usize) -> Room
-    ensures { λ r. ⌜ r .rows ≤ 15 ⌝ }
+// The number that is written in decimal from a place on, and no more than `most`.
+pub fn number(line: &[u8], at: usize, most: usize) -> Field
+    requires { ⌜ most ≤ 4294967295 ⌝ }
+    ensures { λ r. ⌜ r .value ≤ most ⌝ }
 {
-    let mut rows = 0;
+    let mut value = 0;
     let mut i = at;
     while i < line.len() && line[i] != b' ' {
-        rows = least(rows * 10 + digit(line[i]) as usize, 15);
+        value = least(value * 10 + digit(line[i]) as usize, most);
         i += 1;
     }
     if i < line.len() {
         i += 1;
     }
-    Room { rows, past: i }
+    Field { value, past: i }
 }
 
 // How many bytes the hex digits from a place on write, as far as there is room; they stand at the front of `bytes`.

@@ -1,10 +1,10 @@
--- `read` is safe: rows below 16 fit the tables.
+-- `read_rows` is safe: rows below 16 fit the tables.
 -- Assumes nothing.
 use mathlib.Core.Path.{sym}
 use lib.Seq.{length-take-le}
 use borrow.Author.Needs.{needs}
-use Rattle.replay.proofs.read.Statement.{statement}
-use Rattle.replay.proofs.read.Tie as tie
+use Rattle.replay.proofs.reads.read_rows.Statement.{statement}
+use Rattle.replay.proofs.reads.read_rows.Tie as tie
 
 mul-i : tie.Need-mul-i
 mul-i c = search needs
@@ -42,26 +42,14 @@ array-borrow-prefix-a c = search needs
 slice-aggregate-a : tie.Need-slice-aggregate-a
 slice-aggregate-a c = sym (length-take-le _ _ (search needs))
 
-read-left-hand-sides-requires : tie.Need-read-left-hand-sides-requires
-read-left-hand-sides-requires c κs = search needs
-
-read-right-hand-sides-requires : tie.Need-read-right-hand-sides-requires
-read-right-hand-sides-requires c κs = search needs
-
-read-replacements-requires : tie.Need-read-replacements-requires
-read-replacements-requires c κs = search needs
+read-requires : tie.Need-read-requires
+read-requires c κs = search needs
 
 returns : tie.Need-returns
 returns c = search needs
 
-returns-2 : tie.Need-returns-2
-returns-2 c = search needs
-
-returns-3 : tie.Need-returns-3
-returns-3 c = search needs
-
-pub read-spec : {M : Type 1} → statement M
-read-spec =
+pub read-rows-spec : {M : Type 1} → statement M
+read-rows-spec =
     tie.close
     (tie.spec
     mul-i
@@ -76,9 +64,5 @@ read-spec =
     mul-a
     array-borrow-prefix-a
     slice-aggregate-a
-    read-left-hand-sides-requires
-    read-right-hand-sides-requires
-    read-replacements-requires
-    returns
-    returns-2
-    returns-3)
+    read-requires
+    returns)

@@ -1,16 +1,16 @@
--- `capacity` is safe and ends, and what it answers is 15 rows at most. The invariant: so far there are no more.
+-- `number` is safe and ends, and what it answers is no more than the bound. The invariant: so far it is no more.
 -- Assumes nothing.
 use Prim.Native.Nat.{_-_, _≤_}
 use borrow.Author.Needs.{needs}
 use lib.ListN.{length}
-use Rattle.replay.proofs.lines.capacity.Statement.{statement}
-use Rattle.replay.proofs.lines.capacity.Tie as tie
+use Rattle.replay.proofs.lines.number.Statement.{statement}
+use Rattle.replay.proofs.lines.number.Tie as tie
 
 abbrev Inv-loop : tie.InvT-loop
-Inv-loop line at rows₀ i₀ rows i = rows ≤ 15
+Inv-loop line at most value₀ i₀ value i = value ≤ most
 
 abbrev μ-loop : tie.MeasureT-loop
-μ-loop line at rows₀ i₀ rows i = length line - i
+μ-loop line at most value₀ i₀ value i = length line - i
 
 loop-holds : tie.Need-loop-holds Inv-loop μ-loop
 loop-holds c = search needs
@@ -54,8 +54,8 @@ returns c = search needs
 returns-2 : tie.Need-returns-2 Inv-loop μ-loop
 returns-2 c = search needs
 
-pub capacity-spec : {M : Type 1} → statement M
-capacity-spec =
+pub number-spec : {M : Type 1} → statement M
+number-spec =
     tie.close
     (tie.spec
     Inv-loop
