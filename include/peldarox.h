@@ -35,7 +35,8 @@ extern "C" {
      items, statements, operands, attributes
                         the four tables. Each count beside a table is in words, not in rows or bytes: a table has
                         room for its words divided by its row length, rounded down. A text of n bytes never needs
-                        more than n rows of any table.
+                        more than n rows of any table; n / 2 rows of items and n / 3 of statements and of
+                        attributes, rounded up, are enough.
      report             six words, all of them written by every call:
 
                           report[0]   the number of the answer

@@ -29,7 +29,7 @@ use Rattle.laws.proofs.Cases.{by-cases}
 use Rattle.reading.proofs.Ends.{Ends, goes, stops, seq, arms, either, weaker, gone, withItem, withStatement, withOperand, withAttribute, claimItem-ends, claimStatement-ends, claimOperand-ends, claimAttribute-ends}
 use Rattle.reading.proofs.Claims.{Keeps, Claims}
 use Rattle.reading.proofs.Many.{many-turn}
-use Rattle.reading.proofs.Rules.{Room, roomed, Blind, Closed, items-good}
+use Rattle.reading.proofs.Rules.{Room, roomed, Blind, empty, Closed, items-good}
 use Rattle.reading.proofs.Fuel.{never-fuel}
 use Rattle.reading.proofs.Progress.{capacities}
 
@@ -248,6 +248,7 @@ steadying b =
       then = λ j k l p f x y. then-steady p f x y;
       choose = λ j k t p q x y. cond-steady t p q x y;
       less = λ j k p x. x;
+      lose = λ j k p x. x;
       look = λ j. look-steady;
       take = λ j. take-steady;
       item = λ j r. item-steady b r;
@@ -259,7 +260,7 @@ steadying b =
 
 -- Every list of items ends alike with more room.
 pub items-steady : {c d : Room} → Below d c → (e : Entry) → Steady c d (R.items e)
-items-steady b e = items-good (steadying b) e 0
+items-steady b e = items-good (steadying b) e empty
 
 -- how many rows lent tables have room for
 abbrev pub room : Lent → Room

@@ -24,7 +24,7 @@ use Rattle.rules.specs.Reading as R
 use Rattle.rules.specs.Answers.{Lent, start, Outcome, accepted, refusal, outcome, readChecked, reading, answerOf}
 use Rattle.laws.proofs.Cases.{by-cases}
 use Rattle.reading.proofs.Ends.{Ends, goes, stops, seq, arms, either, claimItem-ends, claimStatement-ends, claimOperand-ends, claimAttribute-ends}
-use Rattle.reading.proofs.Rules.{Room, Closed, items-good}
+use Rattle.reading.proofs.Rules.{Room, empty, Closed, items-good}
 use Rattle.reading.proofs.Progress.{capacities, refusal-number}
 use Rattle.reading.proofs.Capacity.{Below, Fits, NotSeven, room, same-unless-seven, seven-over}
 
@@ -88,6 +88,7 @@ bounding d =
       then = λ j k l p f x y. then-bounded p f x y;
       choose = λ j k t p q x y. cond-bounded t p q x y;
       less = λ j k p x. x;
+      lose = λ j k p x. x;
       look = λ j. look-bounded;
       take = λ j. take-bounded;
       item = λ j r. item-bounded r;
@@ -100,7 +101,7 @@ bounding d =
 -- Every list of items claims rows within the room that there is.
 pub items-fit : (e : Entry) (text : List ℕ) (l : Lent) → Ends (λ a v. (capacities (v .tables) ≡ room l) × Fits (room l) (v .tables)) (λ n t. Unit {0}) (R.items e (start text l))
 unfolding start
-items-fit e text l = items-good (bounding (room l)) e 0 .by (start text l) refl (record { items = omega arith; statements = omega arith; operands = omega arith; attributes = omega arith })
+items-fit e text l = items-good (bounding (room l)) e empty .by (start text l) refl (record { items = omega arith; statements = omega arith; operands = omega arith; attributes = omega arith })
 
 outcome-fits : {d : Room} {m : Res (Unit {0})} {t : Tables} → Ends (λ a v. (capacities (v .tables) ≡ d) × Fits d (v .tables)) (λ n s. Unit {0}) m → outcome m ≡ accepted t → Fits d t
 unfolding outcome

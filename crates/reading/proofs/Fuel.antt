@@ -23,7 +23,7 @@ use Rattle.rules.specs.Answers.{Lent, start, faultNumber, Outcome, accepted, re
 use Rattle.laws.proofs.Cases.{by-cases}
 use Rattle.reading.proofs.Ends.{Ends, goes, stops, seq, arms, either, stopped, claimItem-ends, claimStatement-ends, claimOperand-ends, claimAttribute-ends}
 use Rattle.reading.proofs.Many.{Stops, many-stops}
-use Rattle.reading.proofs.Rules.{Closed, items-good}
+use Rattle.reading.proofs.Rules.{empty, Closed, items-good}
 
 -- the faults that have a number in document 01's table
 abbrev pub Numbered : ℕ → Spot → Type 0
@@ -54,6 +54,7 @@ numbering =
       then = λ j k l p f x y. record { by = λ w. seq f (x .by w) (λ a v h. y a .by v) };
       choose = λ j k t p q x y. record { by = λ w. either t p q w (x .by w) (y .by w) };
       less = λ j k p x. x;
+      lose = λ j k p x. x;
       look = λ j. lookahead-stops;
       take = λ j. token-stops;
       item = λ j r. record { by = λ w. claimItem-ends r w (λ h. tt) (λ h. omega arith) };
@@ -65,7 +66,7 @@ numbering =
 
 -- From whatever world, a list of items stops only with such a fault.
 pub items-stop : (e : Entry) → Stops Numbered (R.items e)
-items-stop e = items-good numbering e 0
+items-stop e = items-good numbering e empty
 
 -- No reading stops for want of fuel.
 pub never-fuel : (e : Entry) (text : List ℕ) (l : Lent) (t : Spot) → R.items e (start text l) ≡ stop fault.fuel t → ⊥

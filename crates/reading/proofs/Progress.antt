@@ -1,7 +1,8 @@
 -- Reading moves on: every taken token moves the reader, and every claimed row has a taken token of its own. So a text never claims more rows than it has bytes.
+-- Operands apart, an item has two tokens of its own, a statement or an attribute three. So fewer rows of those do for any text.
 -- Assumes nothing.
 use Prim.Native.Nat.{ℕ, zero, suc, _+_, _*_, _≤_, _<_}
-use mathlib.Core.Path.{_≡_, refl, ap, _∙_}
+use mathlib.Core.Path.{_≡_, refl, ap, subst, _∙_}
 use mathlib.Core.Bool.{Bool, true, false, cond, true≢false}
 use mathlib.Core.List.{List}
 use native.Mathlib.Omega.{arith}
@@ -28,7 +29,7 @@ use Rattle.rules.specs.Answers.{Lent, start, faultNumber, accepted, refusal, ou
 use Rattle.laws.proofs.Cases.{by-cases}
 use Rattle.laws.proofs.Tokens.{found-within, found-kind}
 use Rattle.reading.proofs.Ends.{Ends, goes, stops, seq, either, weaker, gone, stopped, claimItem-ends, claimStatement-ends, claimOperand-ends, claimAttribute-ends}
-use Rattle.reading.proofs.Rules.{Room, Closed, items-good}
+use Rattle.reading.proofs.Rules.{Room, Purse, empty, earned, kept, Closed, items-good}
 
 -- a token, looked at and not taken, that ends where the reader stands
 pub record Lies (t : Spot) (at : ℕ) : Type 0 where
@@ -48,6 +49,10 @@ standAt w = cond (eqb (w .stand .ahead .kind) 0) (w .stand .at) (w .stand .ahead
 -- how many rows are claimed in all
 abbrev pub rows : Tables → ℕ
 rows t = t .items .count + t .statements .count + t .operands .count + t .attributes .count
+
+-- how many tokens the claimed rows have of their own, those of operands apart
+abbrev pub tokens : Tables → ℕ
+tokens t = 2 * t .items .count + 3 * t .statements .count + 3 * t .attributes .count
 
 -- the reader stands in the text
 pub stand-within : (w : World) → Sound w → standAt w ≤ length (w .text)
@@ -125,66 +130,87 @@ token-moves w s =
 abbrev pub capacities : Tables → Room
 capacities t = record { items = t .items .cap; statements = t .statements .cap; operands = t .operands .cap; attributes = t .attributes .cap }
 
--- room for a row for each byte of a text
+-- room for an operand for each byte of a text, for an item for two, for a statement and an attribute for three
 abbrev pub Ample : List ℕ → Room → Type 0
-Ample text c = (length text ≤ c .items) × (length text ≤ c .statements) × (length text ≤ c .operands) × (length text ≤ c .attributes)
+Ample text c = (length text ≤ 2 * c .items) × (length text ≤ 3 * c .statements) × (length text ≤ c .operands) × (length text ≤ 3 * c .attributes)
 
--- a world in which tokens have been taken for all the rows claimed and for j more
-pub record Spare (text : List ℕ) (c : Room) (j : ℕ) (w : World) : Type 0 where
+-- a world in which tokens have been taken for all the rows claimed and for the purse j
+pub record Spare (text : List ℕ) (c : Room) (j : Purse) (w : World) : Type 0 where
   pub sound : Sound w
   pub same : w .text ≡ text
   pub room : capacities (w .tables) ≡ c
-  pub spare : rows (w .tables) + j ≤ standAt w
+  pub spare : rows (w .tables) + j .rows ≤ standAt w
+  pub own : tokens (w .tables) + j .tokens ≤ standAt w
 
--- where a table has no row left, there is not room for a row for each byte
+-- where a table has no row left, there is not so much room
 abbrev pub Short : List ℕ → Room → ℕ → Spot → Type 0
 Short text c n t = n ≡ fault.noRow → Ample text c → ⊥
 
-pub record Moves (text : List ℕ) (c : Room) (j k : ℕ) {A : Type 0} (p : P A) : Type 0 where
+pub record Moves (text : List ℕ) (c : Room) (j k : Purse) {A : Type 0} (p : P A) : Type 0 where
   pub by : (w : World) → Spare text c j w → Ends (λ a v. Spare text c k v) (Short text c) (p w)
 
 module _ {text : List ℕ} {c : Room} where
   -- all that was claimed is in the text
-  spare-within : {j : ℕ} {w : World} → Spare text c j w → rows (w .tables) + j ≤ length text
+  spare-within : {j : Purse} {w : World} → Spare text c j w → rows (w .tables) + j .rows ≤ length text
   spare-within {w = w} s = omega (arith, s .spare, stand-within w (s .sound), ap length (s .same))
 
-  -- the reader moved on, and nothing was claimed
-  spared : {j k : ℕ} {w v : World} → Spare text c j w → Sound v → v .text ≡ w .text → v .tables ≡ w .tables → standAt w + k ≤ standAt v + j → Spare text c k v
-  spared s sound same tables on =
-      let r = ap rows tables in
-      record { sound = sound; same = same ∙ s .same; room = ap capacities tables ∙ s .room; spare = omega (arith, s .spare) }
+  own-within : {j : Purse} {w : World} → Spare text c j w → tokens (w .tables) + j .tokens ≤ length text
+  own-within {w = w} s = omega (arith, s .own, stand-within w (s .sound), ap length (s .same))
 
-  look-moves : (j : ℕ) → Moves text c j j R.lookahead
+  -- the reader moved on, and empty was claimed
+  spared : {j k : Purse} {w v : World} → Spare text c j w → Sound v → v .text ≡ w .text → v .tables ≡ w .tables → standAt w + k .rows ≤ standAt v + j .rows → standAt w + k .tokens ≤ standAt v + j .tokens → Spare text c k v
+  spared s sound same tables-same on own-on =
+      let r = ap rows tables-same in
+      let t = ap tokens tables-same in
+      record { sound = sound; same = same ∙ s .same; room = ap capacities tables-same ∙ s .room; spare = omega (arith, s .spare); own = omega (arith, s .own) }
+
+  look-moves : (j : Purse) → Moves text c j j R.lookahead
   look-moves j = record { by = λ w s. step w s (lookahead-looks w (s .sound)) }
     where
       step : (w : World) → Spare text c j w → {m : Res Spot} → Ends (Looked w) (λ n t. n ≡ fault.lexer) m → Ends (λ a v. Spare text c j v) (Short text c) m
-      step w s (goes t v k) = goes t v (spared s (k .sound) (k .text) (k .tables) (omega (arith, k .stand)))
+      step w s (goes t v k) = goes t v (spared s (k .sound) (k .text) (k .tables) (omega (arith, k .stand)) (omega (arith, k .stand)))
       step w s (stops n t h) = stops n t (λ e a. omega arith)
 
-  take-moves : (j : ℕ) → Moves text c j (suc j) R.token
+  take-moves : (j : Purse) → Moves text c j (earned j) R.token
+  unfolding earned
   take-moves j = record { by = λ w s. step w s (token-moves w (s .sound)) }
     where
-      step : (w : World) → Spare text c j w → {m : Res Spot} → Ends (λ t v. Took w v) (λ n t. n ≡ fault.noRow → ⊥) m → Ends (λ a v. Spare text c (suc j) v) (Short text c) m
-      step w s (goes t v k) = goes t v (spared s (k .sound) (k .text) (k .tables) (omega (arith, k .stand)))
+      step : (w : World) → Spare text c j w → {m : Res Spot} → Ends (λ t v. Took w v) (λ n t. n ≡ fault.noRow → ⊥) m → Ends (λ a v. Spare text c (earned j) v) (Short text c) m
+      step w s (goes t v k) = goes t v (spared s (k .sound) (k .text) (k .tables) (omega (arith, k .stand)) (omega (arith, k .stand)))
       step w s (stops n t h) = stops n t (λ e a. h e)
 
-  -- a claim uses up a token
-  claimed : {j : ℕ} {w : World} {v : Tables} → Spare text c (suc j) w → capacities v ≡ capacities (w .tables) → rows v ≡ rows (w .tables) + 1 → Spare text c j (having v w)
-  claimed s room more = record { sound = record { cursor = s .sound .cursor; ahead = s .sound .ahead }; same = s .same; room = room ∙ s .room; spare = omega (arith, s .spare) }
+  -- a claim is paid for
+  claimed : {j k : Purse} {w : World} {v : Tables} → Spare text c j w → capacities v ≡ capacities (w .tables) → rows v + k .rows ≤ rows (w .tables) + j .rows → tokens v + k .tokens ≤ tokens (w .tables) + j .tokens → Spare text c k (having v w)
+  claimed s room more own-more =
+      record {
+        sound = record { cursor = s .sound .cursor; ahead = s .sound .ahead };
+        same = s .same;
+        room = room ∙ s .room;
+        spare = omega (arith, s .spare);
+        own = omega (arith, s .own);
+      }
 
-  item-moves : (j : ℕ) (r : Item) → Moves text c (suc j) j (claimItem r)
-  item-moves j r = record { by = λ w s. claimItem-ends r w (λ h. claimed s refl (omega arith)) (λ h e a. omega (arith, spare-within s, ap (λ (x : Room). x .items) (s .room))) }
+  item-moves : (j : Purse) (r : Item) → Moves text c (earned (kept j)) j (claimItem r)
+  unfolding earned kept
+  item-moves j r = record { by = λ w s. claimItem-ends r w (λ h. claimed s refl (omega arith) (omega arith)) (λ h e a. omega (arith, own-within s, ap (λ (x : Room). x .items) (s .room))) }
 
-  statement-moves : (j : ℕ) (r : Statement) → Moves text c (suc j) j (claimStatement r)
-  statement-moves j r = record { by = λ w s. claimStatement-ends r w (λ h. claimed s refl (omega arith)) (λ h e a. omega (arith, spare-within s, ap (λ (x : Room). x .statements) (s .room))) }
+  statement-moves : (j : Purse) (r : Statement) → Moves text c (earned (kept (kept j))) j (claimStatement r)
+  unfolding earned kept
+  statement-moves j r = record { by = λ w s. claimStatement-ends r w (λ h. claimed s refl (omega arith) (omega arith)) (λ h e a. omega (arith, own-within s, ap (λ (x : Room). x .statements) (s .room))) }
 
-  operand-moves : (j : ℕ) (r : Operand) → Moves text c (suc j) j (claimOperand r)
-  operand-moves j r = record { by = λ w s. claimOperand-ends r w (λ h. claimed s refl (omega arith)) (λ h e a. omega (arith, spare-within s, ap (λ (x : Room). x .operands) (s .room))) }
+  operand-moves : (j : Purse) (r : Operand) → Moves text c (earned j) (kept j) (claimOperand r)
+  unfolding earned kept
+  operand-moves j r = record { by = λ w s. claimOperand-ends r w (λ h. claimed s refl (omega arith) (omega arith)) (λ h e a. omega (arith, spare-within s, ap (λ (x : Room). x .operands) (s .room))) }
 
-  attribute-moves : (j : ℕ) (r : Attribute) → Moves text c (suc j) j (claimAttribute r)
-  attribute-moves j r = record { by = λ w s. claimAttribute-ends r w (λ h. claimed s refl (omega arith)) (λ h e a. omega (arith, spare-within s, ap (λ (x : Room). x .attributes) (s .room))) }
+  attribute-moves : (j : Purse) (r : Attribute) → Moves text c (earned (kept (kept j))) j (claimAttribute r)
+  unfolding earned kept
+  attribute-moves j r = record { by = λ w s. claimAttribute-ends r w (λ h. claimed s refl (omega arith) (omega arith)) (λ h e a. omega (arith, own-within s, ap (λ (x : Room). x .attributes) (s .room))) }
 
-  repeated-moves : {peek : P Bool} {rule : P (Unit {0})} (j : ℕ) → Moves text c j j peek → Moves text c j j rule → (n : ℕ) → Moves text c j j (repeated n peek rule)
+  -- what is not paid out may be forgotten
+  fewer-moves : {j k l : Purse} {A : Type 0} {p : P A} → l .rows ≤ k .rows → l .tokens ≤ k .tokens → Moves text c j k p → Moves text c j l p
+  fewer-moves few own-few x = record { by = λ w s. weaker (λ a v z. record { sound = z .sound; same = z .same; room = z .room; spare = omega (arith, z .spare); own = omega (arith, z .own) }) (x .by w s) }
+
+  repeated-moves : {peek : P Bool} {rule : P (Unit {0})} (j : Purse) → Moves text c j j peek → Moves text c j j rule → (n : ℕ) → Moves text c j j (repeated n peek rule)
   unfolding repeated
   repeated-moves j x y zero = record { by = λ w s. stops fault.fuel _ (λ e a. omega arith) }
   repeated-moves j x y (suc n) =
@@ -195,21 +221,22 @@ module _ {text : List ℕ} {c : Room} where
             either more _ _ v (seq _ (y .by v s₁) (λ u v′ s₂. repeated-moves j x y n .by v′ s₂)) (goes tt v s₁));
       }
 
-  many-moves : (of : Tables → Table) {peek : P Bool} {rule : P (Unit {0})} (j : ℕ) → Moves text c j j peek → Moves text c j j rule → Moves text c j j (many of peek rule)
+  many-moves : (of : Tables → Table) {peek : P Bool} {rule : P (Unit {0})} (j : Purse) → Moves text c j j peek → Moves text c j j rule → Moves text c j j (many of peek rule)
   unfolding many
   many-moves of j x y = record { by = λ w s. repeated-moves j x y (suc (of (w .tables) .cap)) .by w s }
 
 moving : (text : List ℕ) (c : Room) → Closed (λ j k A p. Moves text c j k p)
-unfolding asks
+unfolding asks earned kept
 moving text c =
     record {
       given = λ j a. record { by = λ w s. goes a w s };
       asked = λ j f h. record { by = λ w s. goes (f w) w s };
-      scoping = λ j n. record { by = λ w s. goes tt (scoped n w) (record { sound = record { cursor = s .sound .cursor; ahead = s .sound .ahead }; same = s .same; room = s .room; spare = s .spare }) };
+      scoping = λ j n. record { by = λ w s. goes tt (scoped n w) (record { sound = record { cursor = s .sound .cursor; ahead = s .sound .ahead }; same = s .same; room = s .room; spare = s .spare; own = s .own }) };
       halted = λ j k n t h. record { by = λ w s. stops n t (λ e a. omega arith) };
       then = λ j k l p f x y. record { by = λ w s. seq f (x .by w s) (λ a v s₁. y a .by v s₁) };
       choose = λ j k t p q x y. record { by = λ w s. either t p q w (x .by w s) (y .by w s) };
-      less = λ j k p x. record { by = λ w s. weaker (λ a v z. record { sound = z .sound; same = z .same; room = z .room; spare = omega (arith, z .spare) }) (x .by w s) };
+      less = λ j k p x. fewer-moves (omega arith) (omega arith) x;
+      lose = λ j k p x. fewer-moves (omega arith) (omega arith) x;
       look = look-moves;
       take = take-moves;
       item = item-moves;
@@ -220,53 +247,60 @@ moving text c =
     }
 
 -- Every list of items moves on.
-pub items-move : (e : Entry) (text : List ℕ) (c : Room) (j : ℕ) → Moves text c j j (R.items e)
+pub items-move : (e : Entry) (text : List ℕ) (c : Room) (j : Purse) → Moves text c j j (R.items e)
 items-move e text c j = items-good (moving text c) e j
 
-start-spare : (text : List ℕ) (l : Lent) → Spare text (capacities (start text l .tables)) 0 (start text l)
+start-spare : (text : List ℕ) (l : Lent) → Spare text (capacities (start text l .tables)) empty (start text l)
 unfolding start
-start-spare text l = record { sound = record { cursor = omega arith; ahead = λ h. absurd (true≢false h) }; same = refl; room = refl; spare = omega arith }
+start-spare text l = record { sound = record { cursor = omega arith; ahead = λ h. absurd (true≢false h) }; same = refl; room = refl; spare = omega arith; own = omega arith }
 
 module _ (e : Entry) (text : List ℕ) (l : Lent) where
-  ends : Ends (λ a v. Spare text (capacities (start text l .tables)) 0 v) (Short text (capacities (start text l .tables))) (R.items e (start text l))
-  ends = items-move e text (capacities (start text l .tables)) 0 .by (start text l) (start-spare text l)
+  ends : Ends (λ a v. Spare text (capacities (start text l .tables)) empty v) (Short text (capacities (start text l .tables))) (R.items e (start text l))
+  ends = items-move e text (capacities (start text l .tables)) empty .by (start text l) (start-spare text l)
 
   -- A text claims no more rows, of all four tables together, than it has bytes.
   pub rows-within : (u : Unit {0}) (w : World) → R.items e (start text l) ≡ go u w → rows (w .tables) ≤ length text
-  rows-within u w h = let s : Spare text (capacities (start text l .tables)) 0 w = gone (rw h at ends) in omega (arith, spare-within s)
+  rows-within u w h = let s : Spare text (capacities (start text l .tables)) empty w = gone (rw h at ends) in omega (arith, spare-within s)
 
   pub counts-within : (u : Unit {0}) (w : World) → R.items e (start text l) ≡ go u w → (w .tables .items .count ≤ length text) × (w .tables .statements .count ≤ length text) × (w .tables .operands .count ≤ length text) × (w .tables .attributes .count ≤ length text)
   counts-within u w h = let r = rows-within u w h in (omega arith, omega arith, omega arith, omega arith)
 
-  -- Where there is room for a row for each byte, no claim is refused.
+  -- Where there is room enough, no claim is refused.
   pub never-full : Ample text (capacities (start text l .tables)) → (t : Spot) → R.items e (start text l) ≡ stop fault.noRow t → ⊥
   never-full a t h = let s : Short text (capacities (start text l .tables)) fault.noRow t = stopped (rw h at ends) in s refl a
 
 -- Outcomes
 
-outcome-rows : {F : ℕ → Spot → Type 0} {n : ℕ} (m : Res (Unit {0})) (t : Tables) → Ends (λ a v. rows (v .tables) ≤ n) F m → outcome m ≡ accepted t → rows t ≤ n
+outcome-tables : {F : ℕ → Spot → Type 0} (Q : Tables → Type 0) (m : Res (Unit {0})) (t : Tables) → Ends (λ a v. Q (v .tables)) F m → outcome m ≡ accepted t → Q t
 unfolding outcome
-outcome-rows (go u w) t h e = let same : w .tables ≡ t = cc in rw same at (gone h)
-outcome-rows (stop f s) t h e = let z : _≡_ {A = ℕ} 0 1 = cc in omega arith
+outcome-tables Q (go u w) t h e = let same : w .tables ≡ t = cc in subst Q same (gone h)
+outcome-tables Q (stop f s) t h e = absurd (let z : _≡_ {A = ℕ} 0 1 = cc in omega arith)
 
-checked-rows : (c : Checked) (e : Entry) (text : List ℕ) (l : Lent) (t : Tables) → readChecked c e text l ≡ accepted t → rows t ≤ length text
+-- all rows together, and the tokens that they have of their own, are no more than the bytes of a text
+abbrev pub Within : List ℕ → Tables → Type 0
+Within text t = (rows t ≤ length text) × (tokens t ≤ length text)
+
+checked-rows : (c : Checked) (e : Entry) (text : List ℕ) (l : Lent) (t : Tables) → readChecked c e text l ≡ accepted t → Within text t
 unfolding readChecked
-checked-rows WellFormed e text l t h = outcome-rows _ t (weaker (λ a v s. let z = spare-within s in omega arith) (ends e text l)) h
-checked-rows (IllFormed q) e text l t h = let z : _≡_ {A = ℕ} 0 1 = cc in omega arith
+checked-rows WellFormed e text l t h = outcome-tables (Within text) _ t (weaker (λ a v s. let z = spare-within s in let y = own-within s in (omega arith, omega arith)) (ends e text l)) h
+checked-rows (IllFormed q) e text l t h = absurd (let z : _≡_ {A = ℕ} 0 1 = cc in omega arith)
 
--- What is accepted has no more rows, in all four tables together, than the text has bytes.
-pub accepted-within : (e : Entry) (text : List ℕ) (l : Lent) (t : Tables) → reading e text l ≡ accepted t → rows t ≤ length text
+-- What is accepted has no more rows, in all four tables together, than the text has bytes; twice its items and three times its statements and attributes are no more.
+pub accepted-bounds : (e : Entry) (text : List ℕ) (l : Lent) (t : Tables) → reading e text l ≡ accepted t → Within text t
 unfolding reading
-accepted-within e text l t =
+accepted-bounds e text l t =
     by-cases (ltb 65536 (length text))
-    (λ long. rw long (λ h. let z : _≡_ {A = ℕ} 0 1 = cc in omega arith))
+    (λ long. rw long (λ h. absurd (let z : _≡_ {A = ℕ} 0 1 = cc in omega arith)))
     (λ short. rw short (checked-rows (checked text) e text l t))
+
+pub accepted-within : (e : Entry) (text : List ℕ) (l : Lent) (t : Tables) → reading e text l ≡ accepted t → rows t ≤ length text
+accepted-within e text l t h = accepted-bounds e text l t h .0
 
 arm : {A : Type 0} (t : Bool) {x y : ℕ} → (t ≡ true → x ≡ 7 → A) → (y ≡ 7 → A) → cond t x y ≡ 7 → A
 arm true h k e = h refl e
 arm false h k e = k e
 
--- 7 is the number of a claim that is refused, and of nothing else
+-- 7 is the number of a claim that is refused, and of empty else
 pub seven : (f : ℕ) → faultNumber f ≡ 7 → f ≡ fault.noRow
 unfolding faultNumber
 seven f =
@@ -292,10 +326,15 @@ unfolding readChecked
 checked-seven WellFormed e text l p a h = outcome-seven _ p (never-full e text l a) h
 checked-seven (IllFormed q) e text l p a h = omega (arith, refusal-number h)
 
--- A table lent with a row for each byte of the text is never too small.
-pub never-seven : (e : Entry) (text : List ℕ) (l : Lent) → itemLength * length text ≤ l .items → statementLength * length text ≤ l .statements → operandLength * length text ≤ l .operands → attributeLength * length text ≤ l .attributes → (p : ℕ) → reading e text l ≡ refusal 7 p → ⊥
-unfolding reading start
-never-seven e text l i s o a p =
+-- Tables of a row of items for two bytes of a text that is not too long, of statements and attributes for three, and of operands for one, are never too small.
+pub enough-rows : (e : Entry) (text : List ℕ) (l : Lent) → (length text ≤ 65536 → Ample text (capacities (start text l .tables))) → (p : ℕ) → reading e text l ≡ refusal 7 p → ⊥
+unfolding reading
+enough-rows e text l a p =
     by-cases (ltb 65536 (length text))
     (λ long. rw long (λ h. omega (arith, refusal-number h)))
-    (λ short. rw short (checked-seven (checked text) e text l p (let few = ltb-false 65536 (length text) short in (omega arith, omega arith, omega arith, omega arith))))
+    (λ short. rw short (checked-seven (checked text) e text l p (a (ltb-false 65536 (length text) short))))
+
+-- A table lent with a row for each byte of the text is never too small.
+pub never-seven : (e : Entry) (text : List ℕ) (l : Lent) → itemLength * length text ≤ l .items → statementLength * length text ≤ l .statements → operandLength * length text ≤ l .operands → attributeLength * length text ≤ l .attributes → (p : ℕ) → reading e text l ≡ refusal 7 p → ⊥
+unfolding start
+never-seven e text l i s o a = enough-rows e text l (λ short. (omega arith, omega arith, omega arith, omega arith))
