@@ -16,9 +16,9 @@ use Rattle.rules.specs.World.{World, Stand, Table, Tables, Res, go, stop, P, bi
 use Rattle.rules.specs.Reading as R
 use Rattle.rules.specs.Reading.{letters}
 use Rattle.laws.proofs.Tokens.{found-within}
-use Rattle.promises.proofs.Tokens.{token}
-use Rattle.promises.proofs.Located.{located, spelt}
-use Rattle.promises.proofs.AcceptedTokens.{Told, Good, token-good}
+use Rattle.bynames.proofs.Tokens.{token}
+use Rattle.bynames.proofs.Located.{located, spelt}
+use Rattle.bynames.proofs.AcceptedTokens.{Told, Good, token-good}
 use Rattle.simulation.proofs.Tokens.{world}
 
 -- a token of the text

@@ -14,7 +14,7 @@ use Rattle.rules.specs.WellFormed.{isName, isPattern}
 use Rattle.rules.specs.Reading.{bit, allBits}
 use Rattle.laws.proofs.Cases.{by-cases}
 use Rattle.laws.proofs.Tests.{and-left, and-right}
-use Rattle.promises.proofs.WellFormed.{Each, IsName, IsPattern}
+use Rattle.bynames.proofs.WellFormed.{Each, IsName, IsPattern}
 use Rattle.accepted.proofs.Padding.{and-both}
 
 -- every letter passes a test

@@ -12,7 +12,7 @@ use Rattle.rules.specs.Integers.{Read, number, refused, fits, integer, typeWidt
 use Rattle.rules.specs.World.{Stand, Tables, asks}
 use Rattle.rules.specs.Reading as R
 use Rattle.rules.specs.Reading.{letters}
-use Rattle.promises.proofs.AcceptedTokens.{integer-gives, fits-gives, width-gives}
+use Rattle.bynames.proofs.AcceptedTokens.{integer-gives, fits-gives, width-gives}
 use Rattle.simulation.proofs.Tokens.{world}
 use Rattle.accepted.proofs.Going.{Sits, Reads, reads, refuses, read-then, read-either, look-reads, token-reads, expect-reads}
 

@@ -22,7 +22,7 @@ use Rattle.rules.specs.Syntax.{Item}
 use Rattle.rules.specs.World.{Tables}
 use Rattle.rules.specs.Answers.{Lent, Outcome, accepted, refusal, answerOf, readChecked, reading}
 use Rattle.laws.proofs.Cases.{by-cases}
-use Rattle.promises.proofs.Reader as names
+use Rattle.bynames.proofs.Reader as names
 use Rattle.simulation.proofs.Said.{itemsIn, AsManyRows}
 use Rattle.simulation.proofs.Items.{entryOf}
 use Rattle.simulation.proofs.Whole.{accepted-by-names, accepted-by-rows}

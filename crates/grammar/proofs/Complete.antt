@@ -12,12 +12,12 @@ use Rattle.rules.specs.Bytes.{count, same}
 use Rattle.rules.specs.Integers.{number, fits, integer}
 use Rattle.rules.specs.Tokens as T
 use Rattle.rules.specs.Syntax as syntax
-use Rattle.promises.proofs.WellFormed.{Each, bitByte}
-use Rattle.promises.proofs.Tokens.{Next, end, bad, found, token}
-use Rattle.promises.proofs.Reader as R
-use Rattle.promises.proofs.Reader.{Res, go, P, at}
-use Rattle.promises.proofs.Moves.{Some}
-use Rattle.promises.proofs.Steps.{step, before, looks, demands, expects}
+use Rattle.bynames.proofs.WellFormed.{Each, bitByte}
+use Rattle.bynames.proofs.Tokens.{Next, end, bad, found, token}
+use Rattle.bynames.proofs.Reader as R
+use Rattle.bynames.proofs.Reader.{Res, go, P, at}
+use Rattle.bynames.proofs.Moves.{Some}
+use Rattle.bynames.proofs.Steps.{step, before, looks, demands, expects}
 use Rattle.grammar.proofs.Grammar.{Token, ident, valname, knownBits, int, colon, openParen, closeParen, kindOf, Scope, Typing, no-type, a-type, Operand, a-value, a-constant, Further, no-further, one-further, Operands, no-operands, some-operands, AttributeInner, known-bits, power-of-two, is-negative, non-negative, non-zero, has-external-uses, sign-bits, in-range, RootAttributeInner, demanded-bits, harvested-from-use, Attributes, no-attributes, one-attribute}
 use Rattle.grammar.proofs.Leads.{First, Leads, here, over, leads-cons, leads-split, leads-long}
 

@@ -11,11 +11,11 @@ use Rattle.rules.specs.Bytes.{same}
 use Rattle.rules.specs.Syntax as syntax
 use Rattle.rules.specs.Syntax.{Name, onto, scope}
 use Rattle.rules.specs.Listing.{has}
-use Rattle.promises.proofs.Tokens.{Next, end, token}
-use Rattle.promises.proofs.Reader as R
-use Rattle.promises.proofs.Reader.{State, go, reading, accepted}
-use Rattle.promises.proofs.Moves.{Some, token-some, token-ahead}
-use Rattle.promises.proofs.Steps.{step, before, looks, expects, keywords}
+use Rattle.bynames.proofs.Tokens.{Next, end, token}
+use Rattle.bynames.proofs.Reader as R
+use Rattle.bynames.proofs.Reader.{State, go, reading, accepted}
+use Rattle.bynames.proofs.Moves.{Some, token-some, token-ahead}
+use Rattle.bynames.proofs.Steps.{step, before, looks, expects, keywords}
 use Rattle.simulation.proofs.Items.{entryOf}
 use Rattle.grammar.proofs.Grammar.{Token, valname, word, Scope, Operand, RootAttributeInner, Attributes, Statements, Infer, an-infer, Result, a-result, Cand, a-cand, Item, a-pair, a-candidate, a-left-hand-side, a-right-hand-side, Items, no-items, one-item}
 use Rattle.grammar.proofs.Leads.{First, Leads, here, over, leads-cons, leads-split, leads-some, leads-long}

@@ -22,7 +22,7 @@ use Rattle.rules.specs.Instructions.{arityOf, instructionName}
 use Rattle.rules.specs.Syntax as syntax
 use Rattle.rules.specs.Syntax.{Name, onto}
 use Rattle.rules.specs.Listing.{has}
-use Rattle.promises.proofs.WellFormed.{Each, bitByte, sideOf}
+use Rattle.bynames.proofs.WellFormed.{Each, bitByte, sideOf}
 
 -- ---- tokens
 -- a token without its place: its letters where they say something, and the pattern alone of knownBits

@@ -9,10 +9,10 @@ use Rattle.rules.specs.declared.Lexed.{Lexed}
 use Rattle.rules.specs.declared.Lexed.the-variants.{Found, End, Refused}
 use Rattle.rules.specs.Bytes.{part}
 use Rattle.rules.specs.Tokens.{tokenAt}
-use Rattle.promises.proofs.Tokens.{Next, end, found, token}
-use Rattle.promises.proofs.Located.{spelt, located}
-use Rattle.promises.proofs.Reader.{ahead}
-use Rattle.promises.proofs.Moves.{Some, token-some, token-ahead}
+use Rattle.bynames.proofs.Tokens.{Next, end, found, token}
+use Rattle.bynames.proofs.Located.{spelt, located}
+use Rattle.bynames.proofs.Reader.{ahead}
+use Rattle.bynames.proofs.Moves.{Some, token-some, token-ahead}
 use Rattle.grammar.proofs.Grammar.{Token, Written, Lexes, at-end, at-token}
 
 -- the next token is so, and this text stands behind it

@@ -11,8 +11,8 @@ use Rattle.rules.specs.Syntax.{Item}
 use Rattle.rules.specs.Printing.{printedAll}
 use Rattle.rules.specs.World.{Tables}
 use Rattle.rules.specs.Answers.{Lent, lent, accepted, Reads, reading}
-use Rattle.promises.proofs.Reader as names
-use Rattle.promises.proofs.Listed.{print-lists}
+use Rattle.bynames.proofs.Reader as names
+use Rattle.bynames.proofs.Listed.{print-lists}
 use Rattle.simulation.proofs.Said.{itemsIn, AsManyRows}
 use Rattle.simulation.proofs.Items.{entryOf}
 use Rattle.simulation.proofs.Whole.{accepted-by-names}

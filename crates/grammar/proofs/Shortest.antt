@@ -14,7 +14,7 @@ use Rattle.rules.specs.Integers.{Read, number, refused, behind, unsigned, below
 use Rattle.laws.proofs.Same.{by-cond}
 use Rattle.laws.proofs.Cases.{by-cases}
 use Rattle.laws.proofs.Tests.{and-right}
-use Rattle.promises.proofs.Decimals.{decimal-digits}
+use Rattle.bynames.proofs.Decimals.{decimal-digits}
 
 -- ---- digits
 spell-short : (f n k : ℕ) → n < 10 ^ k → 1 ≤ k → length (spell f n) ≤ k

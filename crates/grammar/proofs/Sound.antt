@@ -14,11 +14,11 @@ use Rattle.rules.specs.Syntax as syntax
 use Rattle.rules.specs.Syntax.{Name}
 use Rattle.rules.specs.Listing.{has}
 use Rattle.laws.proofs.Same.{same-true}
-use Rattle.promises.proofs.WellFormed.{sideOf, isBlock, blockSize}
-use Rattle.promises.proofs.Tokens.{Next, end, bad, found, token}
-use Rattle.promises.proofs.Reader as R
-use Rattle.promises.proofs.Reader.{State, Res, go, stop, P, bind}
-use Rattle.promises.proofs.AcceptedParts.{Ok, seq, either}
+use Rattle.bynames.proofs.WellFormed.{sideOf, isBlock, blockSize}
+use Rattle.bynames.proofs.Tokens.{Next, end, bad, found, token}
+use Rattle.bynames.proofs.Reader as R
+use Rattle.bynames.proofs.Reader.{State, Res, go, stop, P, bind}
+use Rattle.bynames.proofs.AcceptedParts.{Ok, seq, either}
 use Rattle.grammar.proofs.Grammar.{Token, ident, valname, int, comma, colon, equals, openParen, closeParen, openBracket, Written, Scope, Typing, no-type, a-type, Operand, a-value, a-constant, Further, no-further, one-further, Operands, no-operands, some-operands}
 use Rattle.grammar.proofs.Leads.{Leads, here, over, leads-join}
 

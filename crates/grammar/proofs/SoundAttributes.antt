@@ -12,12 +12,12 @@ use Rattle.rules.specs.Integers.{fits, integer}
 use Rattle.rules.specs.Tokens as T
 use Rattle.rules.specs.Syntax as syntax
 use Rattle.laws.proofs.Same.{same-true}
-use Rattle.promises.proofs.WellFormed.{bitByte}
-use Rattle.promises.proofs.Tokens.{Next}
-use Rattle.promises.proofs.Reader as R
-use Rattle.promises.proofs.Reader.{State, P}
-use Rattle.promises.proofs.AcceptedTokens.{count-each}
-use Rattle.promises.proofs.AcceptedParts.{Ok, seq, either}
+use Rattle.bynames.proofs.WellFormed.{bitByte}
+use Rattle.bynames.proofs.Tokens.{Next}
+use Rattle.bynames.proofs.Reader as R
+use Rattle.bynames.proofs.Reader.{State, P}
+use Rattle.bynames.proofs.AcceptedTokens.{count-each}
+use Rattle.bynames.proofs.AcceptedParts.{Ok, seq, either}
 use Rattle.grammar.proofs.Grammar.{Token, ident, knownBits, int, comma, equals, openParen, closeParen, openBracket, word, Scope, AttributeInner, known-bits, power-of-two, is-negative, non-negative, non-zero, has-external-uses, sign-bits, in-range, RootAttributeInner, demanded-bits, harvested-from-use, Attributes, no-attributes, one-attribute}
 use Rattle.grammar.proofs.Leads.{Leads, here, leads-on}
 use Rattle.grammar.proofs.Sound.{Stays, Took, took, is-ident, is-int, is-comma, is-equals, is-open, is-close, is-bracket, seq-look, demand-sound, expect-sound, Number, int-sound, field-sound}

@@ -19,10 +19,10 @@ use Rattle.rules.specs.Syntax as syntax
 use Rattle.rules.specs.Syntax.{onto}
 use Rattle.rules.specs.Listing.{has}
 use Rattle.laws.proofs.Same.{by-cond, same-true}
-use Rattle.promises.proofs.Tokens.{Next, end, bad, found, cut, token}
-use Rattle.promises.proofs.Reader as R
-use Rattle.promises.proofs.Reader.{State, Res, go, stop, P, bind, at, fuelOf, Inferred, reading, accepted}
-use Rattle.promises.proofs.AcceptedParts.{Ok, seq, either}
+use Rattle.bynames.proofs.Tokens.{Next, end, bad, found, cut, token}
+use Rattle.bynames.proofs.Reader as R
+use Rattle.bynames.proofs.Reader.{State, Res, go, stop, P, bind, at, fuelOf, Inferred, reading, accepted}
+use Rattle.bynames.proofs.AcceptedParts.{Ok, seq, either}
 use Rattle.simulation.proofs.Items.{entryOf}
 use Rattle.grammar.proofs.Grammar.{Token, ident, valname, word, Scope, Operand, RootAttributeInner, Attributes, Statements, Infer, an-infer, a-result, a-cand, Item, a-pair, a-candidate, a-left-hand-side, a-right-hand-side, Items, no-items, one-item}
 use Rattle.grammar.proofs.Leads.{Leads, here, over, leads-join}

@@ -9,11 +9,11 @@ use native.Mathlib.Omega.{arith}
 use lib.Dec.{leb}
 use lib.ListN.{length, drop, length-drop}
 use borrow.Author.Tests.{leb-true, leb-false}
-use Rattle.promises.proofs.WellFormed.{IsName, IsPattern}
-use Rattle.promises.proofs.Tokens.{Next, end, token}
-use Rattle.promises.proofs.AcceptedTokens.{Told, Good, token-good}
-use Rattle.promises.proofs.Reader.{ahead}
-use Rattle.promises.proofs.Moves.{Some, token-some, token-ahead}
+use Rattle.bynames.proofs.WellFormed.{IsName, IsPattern}
+use Rattle.bynames.proofs.Tokens.{Next, end, token}
+use Rattle.bynames.proofs.AcceptedTokens.{Told, Good, token-good}
+use Rattle.bynames.proofs.Reader.{ahead}
+use Rattle.bynames.proofs.Moves.{Some, token-some, token-ahead}
 use Rattle.grammar.proofs.Grammar.{Token, ident, valname, knownBits, int, comma, colon, equals, openParen, closeParen, openBracket, Written}
 use Rattle.grammar.proofs.Leads.{Leads, here, over}
 

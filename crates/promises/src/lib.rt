@@ -1,1 +1,1 @@
-// Demand 3 as theorems over the definitions of `rules`. No code.
+// What was demanded, as theorems over the contracts of the public calls. No code.

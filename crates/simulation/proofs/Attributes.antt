@@ -26,10 +26,10 @@ use Rattle.rules.specs.Reading.{letters, attributeRow}
 use Rattle.laws.proofs.Cases.{by-cases}
 use Rattle.reading.proofs.Claims.{Claims, openParenAhead-keeps, attribute-claims, rootAttribute-claims}
 use Rattle.reading.proofs.Many.{many-turn}
-use Rattle.promises.proofs.Moves.{Within, Takes}
-use Rattle.promises.proofs.MovesRules.{attribute-takes, root-attribute-takes}
-use Rattle.promises.proofs.Reader as names
-use Rattle.promises.proofs.Reader.{State, ahead}
+use Rattle.bynames.proofs.Moves.{Within, Takes}
+use Rattle.bynames.proofs.MovesRules.{attribute-takes, root-attribute-takes}
+use Rattle.bynames.proofs.Reader as names
+use Rattle.bynames.proofs.Reader.{State, ahead}
 use Rattle.simulation.proofs.Stable.{Sized, withAttribute, attribute-sized, attribute-later, attribute-stays, Says, SayAll, says-later, say-none, say-more}
 use Rattle.simulation.proofs.Together.{Both, goes, halts, seq, seq-ok, either, picks, then-names, claims, nested}
 use Rattle.simulation.proofs.Words.{keywordLetters, keyword-same, keyword-is, keyword-not, all-bits}

@@ -16,7 +16,7 @@ use Rattle.rules.specs.Printing.{printedAll}
 use Rattle.rules.specs.View.{itemsOf}
 use Rattle.rules.specs.World.{Tables}
 use Rattle.rules.specs.Answers.{lent, Outcome, accepted, refusal, answerOf, Reads, reading}
-use Rattle.promises.proofs.Listed.{Lists}
+use Rattle.bynames.proofs.Listed.{Lists}
 use Rattle.simulation.proofs.Said.{itemsIn, AsManyRows}
 use Rattle.simulation.proofs.Left.{Left, left-say}
 use Rattle.simulation.proofs.Canonical.{canonical}

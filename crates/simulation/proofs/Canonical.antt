@@ -11,7 +11,7 @@ use Rattle.rules.specs.Meaning.{SameMeanings}
 use Rattle.rules.specs.Printing.{printedAll}
 use Rattle.rules.specs.World.{Tables}
 use Rattle.rules.specs.Answers.{Lent, accepted, reading}
-use Rattle.promises.proofs.Canonical as by-names
+use Rattle.bynames.proofs.Canonical as by-names
 use Rattle.simulation.proofs.Said.{itemsIn}
 use Rattle.simulation.proofs.Items.{entryOf}
 use Rattle.simulation.proofs.Whole.{accepted-by-names}

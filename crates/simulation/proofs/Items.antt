@@ -24,10 +24,10 @@ use Rattle.rules.specs.Reading as rows
 use Rattle.rules.specs.Reading.{letters}
 use Rattle.laws.proofs.Cases.{by-cases}
 use Rattle.reading.proofs.Parts.{itemRow}
-use Rattle.promises.proofs.Tokens.{Next, bad}
-use Rattle.promises.proofs.Moves.{Some, token-some}
-use Rattle.promises.proofs.Reader as names
-use Rattle.promises.proofs.Reader.{State}
+use Rattle.bynames.proofs.Tokens.{Next, bad}
+use Rattle.bynames.proofs.Moves.{Some, token-some}
+use Rattle.bynames.proofs.Reader as names
+use Rattle.bynames.proofs.Reader.{State}
 use Rattle.simulation.proofs.Stable.{Sized, Later, later-than, withItem, item-sized, item-later, item-stays, name-stays, operandIn, statementIn, itemIn, Says, SayAll}
 use Rattle.simulation.proofs.Together.{Both, goes, full, halts, seq, either, nested, stopped}
 use Rattle.simulation.proofs.Words.{keywordLetters, keyword-is, keyword-not}

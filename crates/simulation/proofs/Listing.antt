@@ -11,8 +11,8 @@ use Rattle.rules.specs.Syntax.{Item}
 use Rattle.rules.specs.Meaning.{Mem}
 use Rattle.rules.specs.World.{Tables}
 use Rattle.rules.specs.Answers.{Lent, accepted, reading}
-use Rattle.promises.proofs.Listed as by-names
-use Rattle.promises.proofs.Listed.{Lists}
+use Rattle.bynames.proofs.Listed as by-names
+use Rattle.bynames.proofs.Listed.{Lists}
 use Rattle.simulation.proofs.Said.{itemsIn}
 use Rattle.simulation.proofs.Items.{entryOf}
 use Rattle.simulation.proofs.Whole.{accepted-by-names}

@@ -14,10 +14,10 @@ use Rattle.rules.specs.Reading as rows
 use Rattle.rules.specs.Answers.{Lent, start}
 use Rattle.reading.proofs.Claims.{itemAhead-keeps, itemOf-claims}
 use Rattle.reading.proofs.Many.{many-turn}
-use Rattle.promises.proofs.Moves.{Within, token-some, token-ahead}
-use Rattle.promises.proofs.MovesRules.{item-takes}
-use Rattle.promises.proofs.Reader as names
-use Rattle.promises.proofs.Reader.{State, ahead}
+use Rattle.bynames.proofs.Moves.{Within, token-some, token-ahead}
+use Rattle.bynames.proofs.MovesRules.{item-takes}
+use Rattle.bynames.proofs.Reader as names
+use Rattle.bynames.proofs.Reader.{State, ahead}
 use Rattle.simulation.proofs.Stable.{Sized, Later, later-same, later-than, itemIn, Says, SayAll, says-later, say-none, say-more}
 use Rattle.simulation.proofs.Together.{Both, goes, seq-ok, then-names, nested}
 use Rattle.simulation.proofs.Tokens.{world, nextAt, state, Sits, after-look-within, look-both}

@@ -17,8 +17,8 @@ use Rattle.rules.specs.View.{typingOf}
 use Rattle.rules.specs.World.{Stand, Tables, go, stop, bind, asks}
 use Rattle.rules.specs.Reading as rows
 use Rattle.rules.specs.Reading.{letters}
-use Rattle.promises.proofs.AcceptedTokens.{width-gives}
-use Rattle.promises.proofs.Reader as names
+use Rattle.bynames.proofs.AcceptedTokens.{width-gives}
+use Rattle.bynames.proofs.Reader as names
 use Rattle.simulation.proofs.Together.{Both, goes, halts, either, nested}
 use Rattle.simulation.proofs.Words.{keywordLetters, keyword-is, keyword-not}
 use Rattle.simulation.proofs.Tokens.{world, state, Sits, Keeps, keeps, Alike, after, after-look, look-both, expect-both, token-as, token-ahead, some-kind, taken-ahead, expected-ahead, past}

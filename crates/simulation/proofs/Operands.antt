@@ -14,8 +14,8 @@ use Rattle.rules.specs.Syntax.{Statement}
 use Rattle.rules.specs.View.{typingOf, asOperand, operandOf}
 use Rattle.rules.specs.World.{World, Stand, Tables, Res, P, go, bind, claimOperand}
 use Rattle.rules.specs.Reading as rows
-use Rattle.promises.proofs.Reader as names
-use Rattle.promises.proofs.Reader.{State}
+use Rattle.bynames.proofs.Reader as names
+use Rattle.bynames.proofs.Reader.{State}
 use Rattle.simulation.proofs.Stable.{Sized, Later, later-same, later-than, withOperand, operand-sized, operand-later, operand-stays, name-stays, operandIn, Says, SayAll, says-later, say-none, say-more}
 use Rattle.simulation.proofs.Together.{Both, goes, seq, either, then-names, claims}
 use Rattle.simulation.proofs.Tokens.{world, state, Sits, after, after-look, look-both, expect-both}

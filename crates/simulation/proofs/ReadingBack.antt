@@ -12,10 +12,10 @@ use Rattle.rules.specs.Meaning.{SameMeanings}
 use Rattle.rules.specs.Printing.{printedAll}
 use Rattle.rules.specs.World.{Tables}
 use Rattle.rules.specs.Answers.{Lent, accepted, reading}
-use Rattle.promises.proofs.Ascii.{printed-checked}
-use Rattle.promises.proofs.AcceptedItems.{accepted-readable}
-use Rattle.promises.proofs.Reader as names
-use Rattle.promises.proofs.ReadingBack as by-names
+use Rattle.bynames.proofs.Ascii.{printed-checked}
+use Rattle.bynames.proofs.AcceptedItems.{accepted-readable}
+use Rattle.bynames.proofs.Reader as names
+use Rattle.bynames.proofs.ReadingBack as by-names
 use Rattle.simulation.proofs.Said.{itemsIn, AsManyRows}
 use Rattle.simulation.proofs.Items.{entryOf}
 use Rattle.simulation.proofs.Whole.{accepted-by-names, accepted-by-rows}

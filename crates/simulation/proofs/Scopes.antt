@@ -21,9 +21,9 @@ use Rattle.rules.specs.World.{World, Stand, Tables, P, go, stop, bind, asks}
 use Rattle.rules.specs.Reading as rows
 use Rattle.rules.specs.Reading.{letters, findRow}
 use Rattle.laws.proofs.Same.{same-true}
-use Rattle.promises.proofs.WellFormed.{sideIn, sideOf, isBlock, blockSize}
-use Rattle.promises.proofs.Reader as names
-use Rattle.promises.proofs.Reader.{State}
+use Rattle.bynames.proofs.WellFormed.{sideIn, sideOf, isBlock, blockSize}
+use Rattle.bynames.proofs.Reader as names
+use Rattle.bynames.proofs.Reader.{State}
 use Rattle.simulation.proofs.Stable.{Later, name-stays, statementIn, Says, says-later}
 use Rattle.simulation.proofs.Together.{Both, halts, nested}
 use Rattle.simulation.proofs.Tokens.{world, state, Sits, after, expect-both}

@@ -23,11 +23,11 @@ use Rattle.rules.specs.World.{World, Stand, Tables, Res, P, go, stop, bind, ask
 use Rattle.rules.specs.Reading as rows
 use Rattle.rules.specs.Reading.{letters, side}
 use Rattle.laws.proofs.Cases.{by-cases}
-use Rattle.promises.proofs.WellFormed.{isBlock, blockSize}
-use Rattle.promises.proofs.Tokens.{Next, bad}
-use Rattle.promises.proofs.Moves.{token-some}
-use Rattle.promises.proofs.Reader as names
-use Rattle.promises.proofs.Reader.{State}
+use Rattle.bynames.proofs.WellFormed.{isBlock, blockSize}
+use Rattle.bynames.proofs.Tokens.{Next, bad}
+use Rattle.bynames.proofs.Moves.{token-some}
+use Rattle.bynames.proofs.Reader as names
+use Rattle.bynames.proofs.Reader.{State}
 use Rattle.simulation.proofs.Stable.{Sized, Later, later-than, name-stays, operandIn}
 use Rattle.simulation.proofs.Together.{Both, goes, halts, seq, either}
 use Rattle.simulation.proofs.Words.{keyword-same}

@@ -25,11 +25,11 @@ use Rattle.tables.proofs.Fields.{statement-last}
 use Rattle.reading.proofs.Parts.{conditionRow}
 use Rattle.reading.proofs.Claims.{statementAhead-keeps, statement-claims}
 use Rattle.reading.proofs.Many.{many-turn}
-use Rattle.promises.proofs.WellFormed.{sideIn, isBlock, blockSize}
-use Rattle.promises.proofs.Moves.{Within, Takes, token-some}
-use Rattle.promises.proofs.MovesRules.{assigned-takes, condition-takes, block-condition-takes}
-use Rattle.promises.proofs.Reader as names
-use Rattle.promises.proofs.Reader.{State, ahead}
+use Rattle.bynames.proofs.WellFormed.{sideIn, isBlock, blockSize}
+use Rattle.bynames.proofs.Moves.{Within, Takes, token-some}
+use Rattle.bynames.proofs.MovesRules.{assigned-takes, condition-takes, block-condition-takes}
+use Rattle.bynames.proofs.Reader as names
+use Rattle.bynames.proofs.Reader.{State, ahead}
 use Rattle.simulation.proofs.Stable.{Sized, Later, later-same, later-than, withStatement, statement-sized, statement-later, statement-stays, name-stays, operandIn, statementIn, Says, SayAll, says-later, say-none, say-more}
 use Rattle.simulation.proofs.Together.{Both, goes, seq, seq-ok, then-names, claims, nested}
 use Rattle.simulation.proofs.Words.{keywordLetters, keyword-seen, keyword-is, keyword-not}

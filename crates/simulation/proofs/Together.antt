@@ -9,9 +9,9 @@ use lib.Dec.{eqb, ltb}
 use Rattle.rules.specs.declared.Spot.{Spot}
 use Rattle.rules.specs.Faults as fault
 use Rattle.rules.specs.World.{World, Table, Res, go, stop, P, bind, claim}
-use Rattle.promises.proofs.Reader as names
-use Rattle.promises.proofs.Reader.{State}
-use Rattle.promises.proofs.AcceptedParts.{Ok}
+use Rattle.bynames.proofs.Reader as names
+use Rattle.bynames.proofs.Reader.{State}
+use Rattle.bynames.proofs.AcceptedParts.{Ok}
 
 pub data Both {X Y : Type 0} (Q : X → World → Y → State → Type 0) : Res X → names.Res Y → Type 0 where
   goes : (x : X) (w : World) (y : Y) (a : State) → Q x w y a → Both Q (go x w) (names.go y a)

@@ -19,11 +19,11 @@ use Rattle.rules.specs.Reading as rows
 use Rattle.rules.specs.Reading.{letters}
 use Rattle.laws.proofs.Cases.{by-cases}
 use Rattle.laws.proofs.Tokens.{found-kind}
-use Rattle.promises.proofs.Tokens.{Next, end, bad, found, token}
-use Rattle.promises.proofs.Located.{spelt, located}
-use Rattle.promises.proofs.Moves.{Some, token-some, Within, look-keeps}
-use Rattle.promises.proofs.Reader as names
-use Rattle.promises.proofs.Reader.{State, Token, ahead}
+use Rattle.bynames.proofs.Tokens.{Next, end, bad, found, token}
+use Rattle.bynames.proofs.Located.{spelt, located}
+use Rattle.bynames.proofs.Moves.{Some, token-some, Within, look-keeps}
+use Rattle.bynames.proofs.Reader as names
+use Rattle.bynames.proofs.Reader.{State, Token, ahead}
 use Rattle.simulation.proofs.Together.{Both, goes, full, halts, seq, seq-ok, either}
 
 -- a world of a text, where its item's first statement is row f

@@ -18,8 +18,8 @@ use Rattle.rules.specs.Reading as rows
 use Rattle.rules.specs.Answers.{Lent, start, accepted, refusal, outcome, faultNumber, readChecked, reading}
 use Rattle.laws.proofs.Cases.{by-cases}
 use Rattle.reading.proofs.Progress.{never-seven}
-use Rattle.promises.proofs.Reader as names
-use Rattle.promises.proofs.Reader.{State}
+use Rattle.bynames.proofs.Reader as names
+use Rattle.bynames.proofs.Reader.{State}
 use Rattle.simulation.proofs.Stable.{Sized, Later, later-same, itemIn}
 use Rattle.simulation.proofs.Together.{Both, goes, full, halts}
 use Rattle.simulation.proofs.Said.{itemsIn, AsManyRows}

@@ -16,7 +16,7 @@ use Rattle.rules.specs.declared.Spot.{Spot}
 use Rattle.laws.proofs.Cases.{by-cases, eqb-iff}
 use Rattle.laws.proofs.Same.{eq-same, ne-same}
 use Rattle.laws.proofs.Names.{keyword-place, keyword-named}
-use Rattle.promises.proofs.WellFormed.{bitByte}
+use Rattle.bynames.proofs.WellFormed.{bitByte}
 
 -- the keyword at a place
 abbrev pub keywordLetters : ℕ → List ℕ

@@ -1,1 +1,0 @@
-// What was demanded, as theorems over the contracts of the public calls. No code.
