@@ -1,40 +1,79 @@
-// The words that a text can hold: the instructions, by a constant table of their names and arities, and the other keywords.
+// The words that a text can hold: the instructions, by constant tables of their names and arities, and the other keywords.
 // How a word is looked for shows nowhere outside.
 mod table;
 
 use rules::keyword;
-use table::INSTRUCTIONS;
+use table::ARITIES;
+use table::LENGTHS;
+use table::NAMES;
 ghost use mathlib.Core.Path.{_≡_};
-ghost use Prim.Native.Nat.{_+_, _*_, _≤_};
-ghost use lib.ListN.{length, drop};
+ghost use Prim.Native.Nat.{_+_, _≤_};
+ghost use lib.ListN.{drop};
 ghost use Rattle.rules.specs.Out.{Wrote};
 ghost use Rattle.rules.specs.Instructions.{instructionOf, arityOf, instructionName, placeOf, keywords, keywordOf};
-ghost use Rattle.instructions.specs.Table.{lenAt, nameAt};
+ghost use Rattle.instructions.specs.Table.{lengthsOf, startOf, AsLong};
+
+// A name: its place among the instructions, and its first letter's among those of all names.
+struct Name {
+    place: usize,
+    first: usize,
+}
 
 // The instruction that w names, by its place in the table; 59 where w names none.
 pub fn instruction(w: &[u8]) -> usize
     ensures { λ r. ⌜ r ≡ instructionOf (now (w .entry)) ⌝ }
 {
-    let table = INSTRUCTIONS;
-    let mut k = 0;
-    while k < 59 {
-        if scan::same(w, name(&table, k)) {
-            return k;
+    let names = NAMES;
+    let lengths = LENGTHS;
+    let mut n = as_long(&lengths, w, Name { place: 0, first: 0 });
+    while n.place < 59 {
+        let place = n.place;
+        let first = n.first;
+        let past = first + w.len();
+        if scan::same(w, &names[first..past]) {
+            return place;
         }
-        k += 1;
+        n = as_long(
+            &lengths,
+            w,
+            Name {
+                place: place + 1,
+                first: past,
+            },
+        );
     }
-    k
+    n.place
 }
 
-// The name in row k of a table.
-fn name(table: &[u8], k: usize) -> &[u8]
-    requires { ⌜ 20 * k + 20 ≤ length (now table) ⌝ }
-    requires { ⌜ lenAt (now table) k ≤ 18 ⌝ }
-    ensures { λ r. ⌜ now r ≡ nameAt (now (table .entry)) k ⌝ }
+// The first name from n on that is as long as w: those before it are passed by.
+fn as_long(lengths: &[u8], w: &[u8], n: Name) -> Name
+    requires { ⌜ now lengths ≡ lengthsOf ⌝ }
+    requires { ⌜ n .place ≤ 59 ⌝ }
+    requires { ⌜ n .first ≡ startOf (n .place) ⌝ }
+    ensures { λ r. ⌜ AsLong (now (w .entry)) n r ⌝ }
 {
-    let row = 20 * k;
-    let len = table[row + 18] as usize;
-    &table[row..row + len]
+    let mut place = n.place;
+    let mut first = n.first;
+    while place < 59 && lengths[place] as usize != w.len() {
+        first += lengths[place] as usize;
+        place += 1;
+    }
+    Name { place, first }
+}
+
+// Where the name of instruction k begins among the letters of all names.
+fn start(lengths: &[u8], k: usize) -> usize
+    requires { ⌜ now lengths ≡ lengthsOf ⌝ }
+    requires { ⌜ k ≤ 59 ⌝ }
+    ensures { λ r. ⌜ r ≡ startOf k ⌝ }
+{
+    let mut first = 0;
+    let mut i = 0;
+    while i < k {
+        first += lengths[i] as usize;
+        i += 1;
+    }
+    first
 }
 
 // How many operands instruction k takes; 0 past the table.
@@ -42,7 +81,7 @@ pub fn arity(k: usize) -> usize
     ensures { λ r. ⌜ r ≡ arityOf k ⌝ }
 {
     if k < 59 {
-        return INSTRUCTIONS[20 * k + 19] as usize;
+        return ARITIES[k] as usize;
     }
     0
 }
@@ -54,8 +93,11 @@ pub fn put_instruction(k: usize, out: &mut [u8]) -> usize
     if 59 <= k {
         return 0;
     }
-    let table = INSTRUCTIONS;
-    output::put(name(&table, k), out)
+    let names = NAMES;
+    let lengths = LENGTHS;
+    let first = start(&lengths, k);
+    let past = first + lengths[k] as usize;
+    output::put(&names[first..past], out)
 }
 
 // The keyword that w is, by its number; `keyword::OTHER` where w is none.

@@ -1,63 +1,91 @@
-// The instructions, in the order of the crate's grammar comment. A row has 20 bytes: a name with a leader of dots up to 18, how many of these
-// are the name's, and how many operands the instruction takes. (A leader of spaces alone would be stored piece by piece at each use.)
-pub const INSTRUCTIONS: [u8; 1180] = *b"\
-    add . . . . . . . \x03\x02\
-    addnsw . . . . . .\x06\x02\
-    addnuw . . . . . .\x06\x02\
-    addnw . . . . . . \x05\x02\
-    sub . . . . . . . \x03\x02\
-    subnsw . . . . . .\x06\x02\
-    subnuw . . . . . .\x06\x02\
-    subnw . . . . . . \x05\x02\
-    mul . . . . . . . \x03\x02\
-    mulnsw . . . . . .\x06\x02\
-    mulnuw . . . . . .\x06\x02\
-    mulnw . . . . . . \x05\x02\
-    udiv . . . . . . .\x04\x02\
-    sdiv . . . . . . .\x04\x02\
-    udivexact . . . . \x09\x02\
-    sdivexact . . . . \x09\x02\
-    urem . . . . . . .\x04\x02\
-    srem . . . . . . .\x04\x02\
-    and . . . . . . . \x03\x02\
-    or . . . . . . . .\x02\x02\
-    xor . . . . . . . \x03\x02\
-    shl . . . . . . . \x03\x02\
-    shlnsw . . . . . .\x06\x02\
-    shlnuw . . . . . .\x06\x02\
-    shlnw . . . . . . \x05\x02\
-    lshr . . . . . . .\x04\x02\
-    lshrexact . . . . \x09\x02\
-    ashr . . . . . . .\x04\x02\
-    ashrexact . . . . \x09\x02\
-    select . . . . . .\x06\x03\
-    zext . . . . . . .\x04\x01\
-    sext . . . . . . .\x04\x01\
-    trunc . . . . . . \x05\x01\
-    eq . . . . . . . .\x02\x02\
-    ne . . . . . . . .\x02\x02\
-    ult . . . . . . . \x03\x02\
-    slt . . . . . . . \x03\x02\
-    ule . . . . . . . \x03\x02\
-    sle . . . . . . . \x03\x02\
-    ctpop . . . . . . \x05\x01\
-    bswap . . . . . . \x05\x01\
-    bitreverse . . . .\x0a\x01\
-    cttz . . . . . . .\x04\x01\
-    ctlz . . . . . . .\x04\x01\
-    fshl . . . . . . .\x04\x03\
-    fshr . . . . . . .\x04\x03\
-    sadd.with.overflow\x12\x02\
-    uadd.with.overflow\x12\x02\
-    ssub.with.overflow\x12\x02\
-    usub.with.overflow\x12\x02\
-    smul.with.overflow\x12\x02\
-    umul.with.overflow\x12\x02\
-    sadd.sat . . . . .\x08\x02\
-    uadd.sat . . . . .\x08\x02\
-    ssub.sat . . . . .\x08\x02\
-    usub.sat . . . . .\x08\x02\
-    extractvalue . . .\x0c\x02\
-    hole . . . . . . .\x04\x00\
-    freeze . . . . . .\x06\x01\
+// The instructions, in the order of the crate's grammar comment: their names, one behind another, how many letters each has, and how many operands
+// it takes. A constant is laid out on the stack at each use, so nothing fills the names up, and the arities stand by themselves.
+pub const NAMES: [u8; 381] = *b"\
+    add\
+    addnsw\
+    addnuw\
+    addnw\
+    sub\
+    subnsw\
+    subnuw\
+    subnw\
+    mul\
+    mulnsw\
+    mulnuw\
+    mulnw\
+    udiv\
+    sdiv\
+    udivexact\
+    sdivexact\
+    urem\
+    srem\
+    and\
+    or\
+    xor\
+    shl\
+    shlnsw\
+    shlnuw\
+    shlnw\
+    lshr\
+    lshrexact\
+    ashr\
+    ashrexact\
+    select\
+    zext\
+    sext\
+    trunc\
+    eq\
+    ne\
+    ult\
+    slt\
+    ule\
+    sle\
+    ctpop\
+    bswap\
+    bitreverse\
+    cttz\
+    ctlz\
+    fshl\
+    fshr\
+    sadd.with.overflow\
+    uadd.with.overflow\
+    ssub.with.overflow\
+    usub.with.overflow\
+    smul.with.overflow\
+    umul.with.overflow\
+    sadd.sat\
+    uadd.sat\
+    ssub.sat\
+    usub.sat\
+    extractvalue\
+    hole\
+    freeze\
+";
+
+pub const LENGTHS: [u8; 59] = *b"\
+    \x03\x06\x06\x05\x03\x06\x06\x05\x03\x06\x06\x05\
+    \x04\x04\x09\x09\x04\x04\
+    \x03\x02\x03\
+    \x03\x06\x06\x05\x04\x09\x04\x09\
+    \x06\x04\x04\x05\
+    \x02\x02\x03\x03\x03\x03\
+    \x05\x05\x0a\x04\x04\
+    \x04\x04\
+    \x12\x12\x12\x12\x12\x12\
+    \x08\x08\x08\x08\
+    \x0c\x04\x06\
+";
+
+pub const ARITIES: [u8; 59] = *b"\
+    \x02\x02\x02\x02\x02\x02\x02\x02\x02\x02\x02\x02\
+    \x02\x02\x02\x02\x02\x02\
+    \x02\x02\x02\
+    \x02\x02\x02\x02\x02\x02\x02\x02\
+    \x03\x01\x01\x01\
+    \x02\x02\x02\x02\x02\x02\
+    \x01\x01\x01\x01\x01\
+    \x03\x03\
+    \x02\x02\x02\x02\x02\x02\
+    \x02\x02\x02\x02\
+    \x02\x00\x01\
 ";

@@ -1,12 +1,12 @@
 -- The search for a name back through the item's statement rows: one row at a time, among the rows that are counted, and what a rule does with what is found.
 -- Assumes nothing.
 use Prim.Native.Nat.{ℕ, zero, suc, _+_, _*_, _-_, _≤_, _<_}
-use mathlib.Core.Path.{_≡_, refl, sym, _∙_}
-use mathlib.Core.Bool.{true, false, cond}
+use mathlib.Core.Path.{_≡_, refl, sym, ap, _∙_}
+use mathlib.Core.Bool.{Bool, true, false, cond}
 use mathlib.Core.List.{List}
 use native.Mathlib.Omega.{arith}
 use borrow.Author.Tests.{eq-eqb, ne-eqb}
-use lib.ListN.{take}
+use lib.ListN.{getD, take}
 use Rattle.rules.specs.declared.Row.{Row}
 use Rattle.rules.specs.declared.Row.the-variants.{At, Missing}
 use Rattle.rules.specs.declared.Span.{Span}
@@ -18,6 +18,7 @@ use Rattle.rules.specs.Faults as fault
 use Rattle.rules.specs.Reading.{letters, findRow, inScope, blockAt}
 use Rattle.rules.specs.World.{Res, go, stop, P, _>>=_, asks}
 use Rattle.laws.proofs.Same.{by-cond}
+use Rattle.laws.proofs.Places.{same-eq}
 use Rattle.tables.specs.declared.State.{State}
 use Rattle.tables.specs.Stands.{world, stands, run}
 use Rattle.tables.proofs.Fields.{name-counted, statement-counted}
@@ -27,6 +28,14 @@ use Rattle.tables.proofs.Chains as chain
 pub compared : (text words name : List ℕ) (i : ℕ) {place : Span} {letters : List ℕ} → place ≡ statementAt words i .name → letters ≡ part text (place .first) (place .past) → same (nameAt text words i) name ≡ same letters name
 unfolding nameAt
 compared text words name i e l = rw (l, e)
+
+-- two lists that differ at a place
+differ-if : (a b : List ℕ) (j : ℕ) → (getD a j 0 ≡ getD b j 0 → ⊥) → (t : Bool) → same a b ≡ t → t ≡ false
+differ-if a b j h true e = absurd (h (ap (λ (l : List ℕ). getD l j 0) (same-eq a b e)))
+differ-if a b j h false e = refl
+
+pub differ : (a b : List ℕ) (j : ℕ) → (getD a j 0 ≡ getD b j 0 → ⊥) → same a b ≡ false
+differ a b j h = differ-if a b j h (same a b) refl
 
 -- a search that stands at row i looks at the row before it
 module _ (text words name : List ℕ) (first i : ℕ) (h : first < i) where

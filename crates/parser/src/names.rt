@@ -18,7 +18,8 @@ ghost use lib.ListN.{length};
 ghost use Rattle.rules.specs.Reading as R;
 ghost use Rattle.tables.specs.Stands.{world, out, stands, run};
 
-// The last of the statement rows from `first` up to `past` that has a name: on to the next candidate at the first letter that differs.
+// The last of the statement rows from `first` up to `past` that has a name: on to the next candidate at the first letter that differs. The letters are
+// compared from the last one back, since the names of an item mostly differ there.
 fn find_row(text: &[u8], statements: &[u32], name: &[u8], first: u32, past: u32) -> Row
     ensures { λ r. ⌜ r ≡ R.findRow (now (text .entry)) (now (statements .entry)) (now (name .entry)) first (past - first) ⌝ }
 {
@@ -30,12 +31,12 @@ fn find_row(text: &[u8], statements: &[u32], name: &[u8], first: u32, past: u32)
         if other.len() != name.len() {
             continue 'candidates;
         }
-        let mut j = 0;
-        while j < name.len() {
+        let mut j = name.len();
+        while 0 < j {
+            j -= 1;
             if other[j] != name[j] {
                 continue 'candidates;
             }
-            j += 1;
         }
         return Row::At(i);
     }

@@ -2,5 +2,6 @@
 pub mod Blocks
 pub mod Counts
 pub mod Told
+pub mod Words
 pub mod AttributeRows
 pub mod Closing

@@ -9,6 +9,7 @@ use parser::lookahead;
 use parser::names;
 use parser::token;
 use rules::Side;
+use rules::Spot;
 use rules::code;
 use rules::fault;
 use rules::keyword;
@@ -89,6 +90,17 @@ fn instruction_side(
     with_side(t, k as u32 + 1, 0, 0)
 }
 
+// The keyword that a token is which names the instruction i: an instruction is none, and is not looked for among them.
+fn keyword_beside(text: &[u8], t: Spot, i: usize) -> u8
+    requires { ⌜ i ≡ R.instructionAt (now text) t ⌝ }
+    ensures { λ r. ⌜ r ≡ R.keywordAt (now (text .entry)) t ⌝ }
+{
+    if i < 59 {
+        return keyword::OTHER;
+    }
+    keyword_at(text, t)
+}
+
 // The right side that begins with the keyword k or the instruction i; what is neither is at fault where the last token was found.
 fn side_of(
     text: &[u8],
@@ -129,7 +141,7 @@ pub fn assignment_rhs(text: &[u8], s: State, statements: &[u32], operands: &mut 
 {
     let t = lookahead(text, s);
     let spot = t.ahead;
-    let k = keyword_at(text, spot);
     let i = instruction_at(text, spot);
+    let k = keyword_beside(text, spot, i);
     side_of(text, t, statements, operands, k, i)
 }

@@ -1,27 +1,29 @@
 -- `parser::names::find_row` meets its contract. While it looks at candidates, what it answers is what a search from here answers;
--- while it compares letters, whether the candidate has the name is whether the letters from here on are the same.
+-- while it compares letters, from the last to the first, those from here on are the same.
 -- Assumes nothing.
-use Prim.Native.Nat.{_≤_, _-_}
+use Prim.Native.Nat.{_≤_, _+_, _-_}
+use mathlib.Core.Bool.{true}
+use native.Mathlib.Omega.{arith}
 use mathlib.Core.Path.{_≡_, refl, sym, _∙_}
 use lib.Dec.{eqb}
 use lib.ListN.{length, drop, getD}
 use borrow.Author.Needs.{needs}
-use borrow.Author.Tests.{eq-eqb, ne-eqb}
+use borrow.Author.Tests.{eq-eqb}
 use Rattle.rules.specs.Bytes.{same}
 use Rattle.rules.specs.Rows.{nameAt}
 use Rattle.rules.specs.Reading.{findRow}
 use Rattle.laws.proofs.Runs.{same-more, same-end, same-long}
-use Rattle.laws.proofs.Tests.{and-true, and-false}
-use Rattle.parser.proofs.Scope.{compared, found-here, not-here, none-left}
+use Rattle.laws.proofs.Tests.{and-true}
+use Rattle.parser.proofs.Scope.{compared, differ, found-here, not-here, none-left}
 use Rattle.parser.proofs.names.find_row.Statement.{statement}
 use Rattle.parser.proofs.names.find_row.Tie as tie
 
 abbrev Inv-loop : tie.InvT-loop
 Inv-loop text statements name first past i other j₀ j =
-    (j ≤ length name) × (same (nameAt text statements i) name ≡ same (drop j other) (drop j name))
+    (j ≤ length name) × (same (drop j other) (drop j name) ≡ true)
 
 abbrev μ-loop : tie.MeasureT-loop
-μ-loop text statements name first past i other j₀ j = length name - j
+μ-loop text statements name first past i other j₀ j = j
 
 abbrev Inv-candidates : tie.InvT-candidates
 Inv-candidates text statements name first past i₀ i =
@@ -53,7 +55,13 @@ candidates-again c =
     (compared _ _ _ _ (c .before .before .name-at .ensures) (c .before .letters .ensures) ∙ same-long _ _ (c .if1 .taken))
 
 loop-holds : tie.Need-loop-holds Inv-loop μ-loop Inv-candidates μ-candidates
-loop-holds c = (search needs, compared _ _ _ _ (c .before .before .name-at .ensures) (c .before .letters .ensures))
+loop-holds c =
+    let a = c .before .letters .result .now in
+    let b = c .before .before .before .before .before .before .before .before .args .name .now in
+    (search needs, same-end a b (length b) (omega arith) (omega arith))
+
+sub-j : tie.Need-sub-j Inv-loop μ-loop Inv-candidates μ-candidates
+sub-j c = search needs
 
 shared-slice-read-if2 : tie.Need-shared-slice-read-if2 Inv-loop μ-loop Inv-candidates μ-candidates
 shared-slice-read-if2 c = search needs
@@ -70,13 +78,9 @@ candidates-again-2 c =
     let d = l .before .before .before .before .before in
     let a = l .before .before .letters .result .now in
     let b = d .before .before .before .before .args .name .now in
-    let j = l .loop .j in
     d .candidates .inv
     ∙ not-here _ _ _ _ _ (search needs)
-    (l .loop .inv .1 ∙ same-more a b j (search needs) (search needs) ∙ and-false (eqb (getD a j 0) (getD b j 0)) _ (ne-eqb _ _ (c .if2 .taken)))
-
-add-j : tie.Need-add-j Inv-loop μ-loop Inv-candidates μ-candidates
-add-j c = search needs
+    (compared _ _ _ _ (l .before .before .before .name-at .ensures) (l .before .before .letters .ensures) ∙ differ a b (l .loop .j - 1) (c .if2 .taken))
 
 loop-less : tie.Need-loop-less Inv-loop μ-loop Inv-candidates μ-candidates
 loop-less c = search needs
@@ -87,15 +91,19 @@ loop-again c =
     let a = l .before .before .letters .result .now in
     let b = l .before .before .before .before .before .before .before .before .before .args .name .now in
     let j = l .loop .j in
-    (search needs, l .loop .inv .1 ∙ same-more a b j (search needs) (search needs) ∙ and-true (eqb (getD a j 0) (getD b j 0)) _ (eq-eqb _ _ (c .if2 .left)))
+    let e : j - 1 + 1 ≡ j = omega arith in
+    let k : same (drop (j - 1 + 1) a) (drop (j - 1 + 1) b) ≡ true = rw e (l .loop .inv .1) in
+    (omega arith, same-more a b (j - 1) (omega arith) (omega arith) ∙ and-true (eqb (getD a (j - 1) 0) (getD b (j - 1) 0)) _ (eq-eqb _ _ (c .if2 .left)) ∙ k)
 
 returns : tie.Need-returns Inv-loop μ-loop Inv-candidates μ-candidates
 returns c =
     let l = c .before in
     let d = l .before .before .before .before .before in
+    let z : l .loop .j ≡ 0 = omega arith in
     let a = l .before .before .letters .result .now in
     let b = d .before .before .before .before .args .name .now in
-    sym (d .candidates .inv ∙ found-here _ _ _ _ _ (search needs) (l .loop .inv .1 ∙ same-end a b (l .loop .j) (search needs) (search needs)))
+    let e : same a b ≡ true = rw z at (l .loop .inv .1) in
+    sym (d .candidates .inv ∙ found-here _ _ _ _ _ (search needs) (compared _ _ _ _ (l .before .before .before .name-at .ensures) (l .before .before .letters .ensures) ∙ e))
 
 returns-2 : tie.Need-returns-2 Inv-loop μ-loop Inv-candidates μ-candidates
 returns-2 c = sym (c .before .candidates .inv ∙ none-left _ _ _ _ _ (search needs))
@@ -115,11 +123,11 @@ find-row-spec =
     candidates-less
     candidates-again
     loop-holds
+    sub-j
     shared-slice-read-if2
     shared-slice-read-if2-2
     candidates-less-2
     candidates-again-2
-    add-j
     loop-less
     loop-again
     returns
