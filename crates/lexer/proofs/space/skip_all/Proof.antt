@@ -1,4 +1,4 @@
--- `skip_gap` meets its contract. The loop's invariant: the whole gap is i bytes and the gap of what follows them.
+-- `skip_all` meets its contract. The loop's invariant: the whole gap is i bytes and the gap of what follows them.
 -- Assumes nothing.
 use mathlib.Core.Path.{_≡_}
 use Prim.Native.Nat.{_≤_, _-_, _+_}
@@ -8,8 +8,8 @@ use Rattle.rules.specs.Space.{skipLen, gap}
 use Rattle.laws.proofs.Runs.{far-more, far-end, far-stop, far-fits}
 use Rattle.laws.proofs.Spaces.{skipLen-le}
 use borrow.Author.Needs.{needs}
-use Rattle.lexer.proofs.space.skip_gap.Statement.{statement}
-use Rattle.lexer.proofs.space.skip_gap.Tie as tie
+use Rattle.lexer.proofs.space.skip_all.Statement.{statement}
+use Rattle.lexer.proofs.space.skip_all.Tie as tie
 
 abbrev Inv-loop : tie.InvT-loop
 Inv-loop s i₀ i = (i ≤ length s) × (gap s ≡ i + gap (drop i s))
@@ -73,8 +73,8 @@ returns-2 c =
     let l = c .before in
     omega (arith, far-end skipLen skipLen-le (l .before .before .args .s .now) (l .loop .i) 0 (c .loop-test .left))
 
-pub skip-gap-spec : {M : Type 1} → statement M
-skip-gap-spec =
+pub skip-all-spec : {M : Type 1} → statement M
+skip-all-spec =
     tie.close
     (tie.spec
     Inv-loop
