@@ -1,38 +1,52 @@
-// The words that a text can hold: the instructions, by a constant table of their names and arities, and the other keywords.
+// The words that a text can hold: the instructions, by constant tables of their names and arities, and the other keywords.
 // How a word is looked for shows nowhere outside.
 mod table;
 
 use rules::keyword;
+use table::ARITIES;
 use table::INSTRUCTIONS;
 ghost use mathlib.Core.Path.{_≡_};
 ghost use Prim.Native.Nat.{_+_, _*_, _≤_};
 ghost use lib.ListN.{length, drop};
 ghost use Rattle.rules.specs.Out.{Wrote};
 ghost use Rattle.rules.specs.Instructions.{instructionOf, arityOf, instructionName, placeOf, keywords, keywordOf};
-ghost use Rattle.instructions.specs.Table.{lenAt, nameAt};
+ghost use Rattle.instructions.specs.Table.{lenAt, nameAt, rows, ahead};
 
 // The instruction that w names, by its place in the table; 59 where w names none.
 pub fn instruction(w: &[u8]) -> usize
     ensures { λ r. ⌜ r ≡ instructionOf (now (w .entry)) ⌝ }
 {
     let table = INSTRUCTIONS;
-    let mut k = 0;
+    let mut k = as_long(&table, w, 0);
     while k < 59 {
         if scan::same(w, name(&table, k)) {
             return k;
         }
-        k += 1;
+        k = as_long(&table, w, k + 1);
     }
     k
 }
 
+// The next row of the table, from k on, whose name is as long as w: those before it are passed by.
+fn as_long(table: &[u8], w: &[u8], k: usize) -> usize
+    requires { ⌜ now table ≡ rows ⌝ }
+    requires { ⌜ k ≤ 59 ⌝ }
+    ensures { λ r. ⌜ (k ≤ r) × (r ≤ 59) × (k + ahead (now (w .entry)) k ≡ r + ahead (now (w .entry)) r) ⌝ }
+{
+    let mut i = k;
+    while i < 59 && table[19 * i + 18] as usize != w.len() {
+        i += 1;
+    }
+    i
+}
+
 // The name in row k of a table.
 fn name(table: &[u8], k: usize) -> &[u8]
-    requires { ⌜ 20 * k + 20 ≤ length (now table) ⌝ }
+    requires { ⌜ 19 * k + 19 ≤ length (now table) ⌝ }
     requires { ⌜ lenAt (now table) k ≤ 18 ⌝ }
     ensures { λ r. ⌜ now r ≡ nameAt (now (table .entry)) k ⌝ }
 {
-    let row = 20 * k;
+    let row = 19 * k;
     let len = table[row + 18] as usize;
     &table[row..row + len]
 }
@@ -42,7 +56,7 @@ pub fn arity(k: usize) -> usize
     ensures { λ r. ⌜ r ≡ arityOf k ⌝ }
 {
     if k < 59 {
-        return INSTRUCTIONS[20 * k + 19] as usize;
+        return ARITIES[k] as usize;
     }
     0
 }

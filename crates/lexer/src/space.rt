@@ -1,9 +1,9 @@
 // White space and comments. An ASCII byte is decided by two comparisons; only other characters are looked up in the table of ranges.
 use rules::Range;
 ghost use mathlib.Core.Path.{_≡_};
-ghost use Prim.Native.Nat.{_≤_};
 ghost use Rattle.rules.specs.Bytes.{inside};
 ghost use Rattle.rules.specs.Space.{white, spaceLen, skipLen, gap};
+ghost use Rattle.lexer.specs.Blank.{blank, Blanks};
 
 // White_Space, as ranges of code points.
 const SPACES: [Range; 10] = [
@@ -71,10 +71,9 @@ fn is_white(c: u32) -> bool
     false
 }
 
-// Whether an ASCII byte is white space.
+// Whether b is ASCII white space.
 fn is_blank(b: u8) -> bool
-    requires { ⌜ b ≤ 127 ⌝ }
-    ensures { λ r. ⌜ r ≡ white b ⌝ }
+    ensures { λ r. ⌜ r ≡ blank b ⌝ }
 {
     scan::inside(9, 13, b) || b == b' '
 }
@@ -113,8 +112,19 @@ fn skip_len(s: &[u8]) -> usize
     0
 }
 
-// The bytes of white space and comments at the front of s.
-pub fn skip_gap(s: &[u8]) -> usize
+// How many ASCII white-space bytes s begins with.
+fn blank_len(s: &[u8]) -> usize
+    ensures { λ r. ⌜ Blanks (now (s .entry)) r ⌝ }
+{
+    let mut i = 0;
+    while i < s.len() && is_blank(s[i]) {
+        i += 1;
+    }
+    i
+}
+
+// The bytes of white space and comments at the front of s, one after another.
+fn skip_all(s: &[u8]) -> usize
     ensures { λ r. ⌜ r ≡ gap (now (s .entry)) ⌝ }
 {
     let mut i = 0;
@@ -126,4 +136,22 @@ pub fn skip_gap(s: &[u8]) -> usize
         i += n;
     }
     i
+}
+
+// The bytes of white space and comments at the front of s. Mostly that is ASCII white space alone.
+pub fn skip_gap(s: &[u8]) -> usize
+    ensures { λ r. ⌜ r ≡ gap (now (s .entry)) ⌝ }
+{
+    let n = blank_len(s);
+    if s.len() <= n {
+        return n;
+    }
+    let b = s[n];
+    if 127 < b {
+        return n + skip_all(&s[n..]);
+    }
+    if b == b';' {
+        return n + skip_all(&s[n..]);
+    }
+    n
 }

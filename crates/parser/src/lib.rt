@@ -26,6 +26,7 @@ ghost use Rattle.rules.specs.Tokens.{tokenAt};
 ghost use Rattle.tables.specs.Stands.{world, out, stands, run};
 ghost use Rattle.rules.specs.Faults.{integer};
 ghost use Rattle.wide.specs.Wide.{bits, asField};
+ghost use Rattle.parser.specs.Next.{nextOf, pass};
 
 // A state and an integer.
 pub struct Integer {
@@ -39,51 +40,10 @@ pub struct Number {
     pub value: u32,
 }
 
-// The next token, looked at and not taken; of kind 0 at the end of the text.
-pub fn lookahead(text: &[u8], s: State) -> State
-    requires { ⌜ length (now text) ≤ 65536 ⌝ }
-    ensures { λ r. ⌜ ((I : List ℕ) (S : List ℕ) (O : List ℕ) (A : List ℕ) → out (r .ahead) (now (text .entry)) r I S O A ≡ run (stands (now (text .entry)) s I S O A) R.lookahead) ⌝ }
-{
-    if s.fault != fault::NONE {
-        return s;
-    }
-    if s.ahead.kind != 0 {
-        return s;
-    }
-    lexed(text, s)
-}
-
-// What is found at or after where a state stands that has nothing ahead: each token is lexed here, once.
-fn lexed(text: &[u8], s: State) -> State
-    requires { ⌜ length (now text) ≤ 65536 ⌝ }
-    requires { ⌜ s .fault ≡ 0 ⌝ }
-    ensures { λ r. ⌜ ((I : List ℕ) (S : List ℕ) (O : List ℕ) (A : List ℕ) → out (r .ahead) (now (text .entry)) r I S O A ≡ R.seen (tokenAt (now (text .entry)) (s .at)) (world (now (text .entry)) s I S O A)) ⌝ }
-{
-    let at = s.at as usize;
-    match lexer::next_token(text, Cursor { at }) {
-        Lexed::Found(t) => {
-            let spot = Spot {
-                kind: t.kind,
-                first: t.first as u32,
-                past: t.past as u32,
-            };
-            let mut seen = s;
-            seen.at = spot.past;
-            seen.ahead = spot;
-            seen.last = spot;
-            seen
-        }
-        Lexed::End => s,
-        Lexed::Refused(p) => refuse(
-            s,
-            fault::LEXER,
-            Spot {
-                kind: 0,
-                first: p as u32,
-                past: p as u32,
-            },
-        ),
-    }
+// What stands next in a text: a token, or what is at fault and where.
+struct Next {
+    fault: u32,
+    spot: Spot,
 }
 
 // The text's last byte; 0 for the empty text.
@@ -100,6 +60,68 @@ fn last_byte(text: &[u8]) -> Spot
         first: at,
         past: at,
     }
+}
+
+// What stands at or after a byte: each token is lexed here, once.
+fn lexed(text: &[u8], from: u32) -> Next
+    requires { ⌜ length (now text) ≤ 65536 ⌝ }
+    ensures { λ r. ⌜ r ≡ nextOf (now (text .entry)) (tokenAt (now (text .entry)) from) ⌝ }
+{
+    let at = from as usize;
+    match lexer::next_token(text, Cursor { at }) {
+        Lexed::Found(t) => Next {
+            fault: fault::NONE,
+            spot: Spot {
+                kind: t.kind,
+                first: t.first as u32,
+                past: t.past as u32,
+            },
+        },
+        Lexed::End => Next {
+            fault: fault::END,
+            spot: last_byte(text),
+        },
+        Lexed::Refused(p) => Next {
+            fault: fault::LEXER,
+            spot: Spot {
+                kind: 0,
+                first: p as u32,
+                past: p as u32,
+            },
+        },
+    }
+}
+
+// The state past what stands next, which is then the last token found, with a token ahead; or at fault there.
+fn past(s: State, n: Next, ahead: Spot) -> State
+    ensures { λ r. ⌜ (r .ahead ≡ ahead) × (r .last ≡ n .spot) × ((text : List ℕ) (I : List ℕ) (S : List ℕ) (O : List ℕ) (A : List ℕ) → out (n .spot) text r I S O A ≡ pass n ahead (world text s I S O A)) ⌝ }
+{
+    let spot = n.spot;
+    let mut t = s;
+    t.fault = n.fault;
+    t.at = spot.past;
+    t.ahead = ahead;
+    t.last = spot;
+    t
+}
+
+// The next token, looked at and not taken; of kind 0 at the end of the text.
+pub fn lookahead(text: &[u8], s: State) -> State
+    requires { ⌜ length (now text) ≤ 65536 ⌝ }
+    ensures { λ r. ⌜ ((I : List ℕ) (S : List ℕ) (O : List ℕ) (A : List ℕ) → out (r .ahead) (now (text .entry)) r I S O A ≡ run (stands (now (text .entry)) s I S O A) R.lookahead) ⌝ }
+{
+    if s.fault != fault::NONE {
+        return s;
+    }
+    if s.ahead.kind != 0 {
+        return s;
+    }
+    let n = lexed(text, s.at);
+    if n.fault == fault::END {
+        return s;
+    }
+    let spot = n.spot;
+    past(s, n, spot)
 }
 
 // The token ahead is taken.
@@ -121,11 +143,13 @@ pub fn token(text: &[u8], s: State) -> State
     requires { ⌜ length (now text) ≤ 65536 ⌝ }
     ensures { λ r. ⌜ ((I : List ℕ) (S : List ℕ) (O : List ℕ) (A : List ℕ) → out (r .last) (now (text .entry)) r I S O A ≡ run (stands (now (text .entry)) s I S O A) R.token) ⌝ }
 {
-    let t = lookahead(text, s);
-    if t.ahead.kind == 0 {
-        return refuse(t, fault::END, last_byte(text));
+    if s.fault != fault::NONE {
+        return s;
     }
-    taken(t)
+    if s.ahead.kind != 0 {
+        return taken(s);
+    }
+    past(s, lexed(text, s.at), nothing())
 }
 
 // A token of a kind.

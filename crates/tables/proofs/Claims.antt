@@ -8,9 +8,9 @@ use native.Mathlib.Omega.{arith}
 use borrow.Author.Tests.{ltb-true}
 use lib.ListN.{length}
 use Rattle.rules.specs.Faults as fault
-use Rattle.rules.specs.World.{World, go, stop, P, refuse}
+use Rattle.rules.specs.World.{World, go, stop, P}
 use Rattle.tables.specs.declared.State.{State}
-use Rattle.tables.specs.Stands.{world, stands, run, Claimed}
+use Rattle.tables.specs.Stands.{world, out, stands, run, Claimed}
 use Rattle.tables.proofs.Steps.{going, goes}
 
 -- rows stay countable
@@ -26,7 +26,11 @@ module _ (p : P (Unit {0})) (room : Bool) (v : World) (text : List ℕ) (s r : S
       let here : p (world text s I S O A) ≡ go tt v = simp free at rule in
       going text r I′ S′ O′ A′ tt v ok e ∙ sym here ∙ sym (goes text s I S O A p sound)
 
-  pub unclaimed : room ≡ false → stands text r I′ S′ O′ A′ ≡ run (stands text s I′ S′ O′ A′) (refuse fault.noRow (s .last)) → stands text r I′ S′ O′ A′ ≡ run (stands text s I S O A) p
-  unclaimed none e =
+  stopped : r .fault ≡ fault.noRow → r .last ≡ s .last → stands text r I′ S′ O′ A′ ≡ stop fault.noRow (s .last)
+  unfolding out
+  stopped what last = simp (what, last)
+
+  pub unclaimed : room ≡ false → r .fault ≡ fault.noRow → r .last ≡ s .last → stands text r I′ S′ O′ A′ ≡ run (stands text s I S O A) p
+  unclaimed none what last =
       let here : p (world text s I S O A) ≡ stop fault.noRow (s .last) = simp none at rule in
-      e ∙ goes text s I′ S′ O′ A′ (refuse fault.noRow (s .last)) sound ∙ sym here ∙ sym (goes text s I S O A p sound)
+      stopped what last ∙ sym here ∙ sym (goes text s I S O A p sound)

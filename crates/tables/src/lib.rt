@@ -109,10 +109,11 @@ fn claim_row(table: &mut [u32], count: u32, row: &[u32]) -> bool
 pub fn claim_item(s: State, items: &mut [u32], row: Item) -> State
     ensures { λ r. ⌜ ((text : List ℕ) (S : List ℕ) (O : List ℕ) (A : List ℕ) → stands text r (now (items .exit)) S O A ≡ run (stands text s (now (items .entry)) S O A) (W.claimItem row)) ⌝ }
 {
-    if s.fault != fault::NONE {
-        return s;
+    let mut u = s;
+    if u.fault != fault::NONE {
+        return u;
     }
-    let n = s.items;
+    let n = u.items;
     let words = [
         row.kind,
         row.statements.first,
@@ -125,22 +126,22 @@ pub fn claim_item(s: State, items: &mut [u32], row: Item) -> State
         row.attributes.past,
     ];
     if claim_row(items, n, &words) {
-        let mut t = s;
-        t.items = n + 1;
-        return t;
+        u.items = n + 1;
+        return u;
     }
-    let last = s.last;
-    refuse(s, fault::NO_ROW, last)
+    u.fault = fault::NO_ROW;
+    u
 }
 
 // The state with a statement's row in the lent statements, refused where no row is left.
 pub fn claim_statement(s: State, statements: &mut [u32], row: Statement) -> State
     ensures { λ r. ⌜ ((text : List ℕ) (I : List ℕ) (O : List ℕ) (A : List ℕ) → stands text r I (now (statements .exit)) O A ≡ run (stands text s I (now (statements .entry)) O A) (W.claimStatement row)) ⌝ }
 {
-    if s.fault != fault::NONE {
-        return s;
+    let mut u = s;
+    if u.fault != fault::NONE {
+        return u;
     }
-    let n = s.statements;
+    let n = u.statements;
     let words = [
         row.code,
         row.name.first,
@@ -154,22 +155,22 @@ pub fn claim_statement(s: State, statements: &mut [u32], row: Statement) -> Stat
         row.attributes.past,
     ];
     if claim_row(statements, n, &words) {
-        let mut t = s;
-        t.statements = n + 1;
-        return t;
+        u.statements = n + 1;
+        return u;
     }
-    let last = s.last;
-    refuse(s, fault::NO_ROW, last)
+    u.fault = fault::NO_ROW;
+    u
 }
 
 // The state with an operand's row in the lent operands, refused where no row is left.
 pub fn claim_operand(s: State, operands: &mut [u32], row: Operand) -> State
     ensures { λ r. ⌜ ((text : List ℕ) (I : List ℕ) (S : List ℕ) (A : List ℕ) → stands text r I S (now (operands .exit)) A ≡ run (stands text s I S (now (operands .entry)) A) (W.claimOperand row)) ⌝ }
 {
-    if s.fault != fault::NONE {
-        return s;
+    let mut u = s;
+    if u.fault != fault::NONE {
+        return u;
     }
-    let n = s.operands;
+    let n = u.operands;
     let words = [
         row.code,
         row.row,
@@ -180,22 +181,22 @@ pub fn claim_operand(s: State, operands: &mut [u32], row: Operand) -> State
         row.bits.d,
     ];
     if claim_row(operands, n, &words) {
-        let mut t = s;
-        t.operands = n + 1;
-        return t;
+        u.operands = n + 1;
+        return u;
     }
-    let last = s.last;
-    refuse(s, fault::NO_ROW, last)
+    u.fault = fault::NO_ROW;
+    u
 }
 
 // The state with an attribute's row in the lent attributes, refused where no row is left.
 pub fn claim_attribute(s: State, attributes: &mut [u32], row: Attribute) -> State
     ensures { λ r. ⌜ ((text : List ℕ) (I : List ℕ) (S : List ℕ) (O : List ℕ) → stands text r I S O (now (attributes .exit)) ≡ run (stands text s I S O (now (attributes .entry))) (W.claimAttribute row)) ⌝ }
 {
-    if s.fault != fault::NONE {
-        return s;
+    let mut u = s;
+    if u.fault != fault::NONE {
+        return u;
     }
-    let n = s.attributes;
+    let n = u.attributes;
     let words = [
         row.code,
         row.pattern.first,
@@ -210,12 +211,11 @@ pub fn claim_attribute(s: State, attributes: &mut [u32], row: Attribute) -> Stat
         row.high.d,
     ];
     if claim_row(attributes, n, &words) {
-        let mut t = s;
-        t.attributes = n + 1;
-        return t;
+        u.attributes = n + 1;
+        return u;
     }
-    let last = s.last;
-    refuse(s, fault::NO_ROW, last)
+    u.fault = fault::NO_ROW;
+    u
 }
 
 // A word of a table; 0 past its end.
@@ -240,9 +240,15 @@ pub fn name_at(statements: &[u32], i: u32) -> Span
     ensures { λ r. ⌜ r ≡ statementAt (now (statements .entry)) i .name ⌝ }
 {
     let at = i as usize * STATEMENT_LENGTH;
+    if at + 2 < statements.len() {
+        return Span {
+            first: statements[at + 1],
+            past: statements[at + 2],
+        };
+    }
     Span {
         first: word_at(statements, at + 1),
-        past: word_at(statements, at + 2),
+        past: 0,
     }
 }
 
@@ -259,16 +265,16 @@ pub fn letters(text: &[u8], first: u32, past: u32) -> &[u8]
 {
     let a = first as usize;
     let b = past as usize;
-    if text.len() < a {
-        return &text[..0];
-    }
     if b < a {
         return &text[..0];
     }
-    if text.len() < b {
+    if b <= text.len() {
+        return &text[a..b];
+    }
+    if a <= text.len() {
         return &text[a..];
     }
-    &text[a..b]
+    &text[..0]
 }
 
 // Zeros from a word on.

@@ -4,7 +4,8 @@ use mathlib.Core.Path.{refl, sym, _∙_}
 use native.Mathlib.Omega.{arith}
 use borrow.Author.Needs.{needs}
 use Rattle.laws.proofs.Over.{nothing, written}
-use Rattle.instructions.proofs.Rows.{table, row-fits, row-name, name-past}
+use Rattle.instructions.specs.Table.{rows}
+use Rattle.instructions.proofs.Rows.{row-fits, row-name, name-past}
 use Rattle.instructions.proofs.put_instruction.Statement.{statement}
 use Rattle.instructions.proofs.put_instruction.Tie as tie
 
@@ -15,7 +16,7 @@ slice-aggregate-name : tie.Need-slice-aggregate-name
 slice-aggregate-name c = refl
 
 name-requires : tie.Need-name-requires
-unfolding table
+unfolding rows
 name-requires c κs = (omega arith, row-fits (c .before .before .before .args .k) (omega arith))
 
 put-requires : tie.Need-put-requires
@@ -25,7 +26,7 @@ same-length : tie.Need-same-length
 same-length c = search needs
 
 returns-2 : tie.Need-returns-2
-unfolding table
+unfolding rows
 returns-2 c =
     let e = c .before .before .before .before in
     let k = e .before .before .before .before .args .k in

@@ -20,8 +20,8 @@ slice-aggregate-claim-row c = search needs
 claim-row-requires : tie.Need-claim-row-requires
 claim-row-requires c κs = search needs
 
-add-t : tie.Need-add-t
-add-t c = omega (arith, few (c .before .before .before .claim-row .ensures) (c .if2 .taken))
+add-u : tie.Need-add-u
+add-u c = omega (arith, few (c .before .before .before .claim-row .ensures) (c .if2 .taken))
 
 same-length : tie.Need-same-length
 same-length c = search needs
@@ -33,18 +33,15 @@ returns-2 c text I S O =
     let f = c .before .before .before .before .before .before .if1 .left in
     claimed _ _ _ _ _ _ _ _ _ _ _ _ _ _ f refl (sym (w .room) ∙ c .if2 .taken) f (simp (w .words (c .if2 .taken), w .long))
 
-refuse-requires : tie.Need-refuse-requires
-refuse-requires c κs = search needs
-
 same-length-2 : tie.Need-same-length-2
 same-length-2 c = search needs
 
 returns-3 : tie.Need-returns-3
 unfolding claimAttribute attributeWords world
 returns-3 c text I S O =
-    let w = c .before .before .before .before .before .claim-row .ensures in
-    let f = c .before .before .before .before .before .before .before .before .if1 .left in
-    unclaimed _ _ _ _ _ _ _ _ _ _ _ _ _ _ f refl (sym (w .room) ∙ c .before .before .if2 .left) (c .refuse .ensures _ _ _ _ _)
+    let w = c .before .before .before .claim-row .ensures in
+    let f = c .before .before .before .before .before .before .if1 .left in
+    unclaimed _ _ _ _ _ _ _ _ _ _ _ _ _ _ f refl (sym (w .room) ∙ c .if2 .left) refl refl
 
 pub claim-attribute-spec : {M : Type 1} → statement M
 claim-attribute-spec =
@@ -53,9 +50,8 @@ claim-attribute-spec =
     returns
     slice-aggregate-claim-row
     claim-row-requires
-    add-t
+    add-u
     same-length
     returns-2
-    refuse-requires
     same-length-2
     returns-3)

@@ -1,91 +1,92 @@
--- `skip_gap` meets its contract. The loop's invariant: the whole gap is i bytes and the gap of what follows them.
+-- `skip_gap` meets its contract: behind the blanks the gap goes on, or the next byte ends it.
 -- Assumes nothing.
-use mathlib.Core.Path.{_≡_}
-use Prim.Native.Nat.{_≤_, _-_, _+_}
 use native.Mathlib.Omega.{arith}
-use lib.ListN.{length, drop}
-use Rattle.rules.specs.Space.{skipLen, gap}
-use Rattle.laws.proofs.Runs.{far-more, far-end, far-stop, far-fits}
-use Rattle.laws.proofs.Spaces.{skipLen-le}
+use Rattle.rules.specs.Space.{skipLen}
+use Rattle.laws.proofs.Tests.{nums}
+use Rattle.laws.proofs.Runs.{far-end}
+use Rattle.laws.proofs.Spaces.{skipLen-le, rest-gap, rest-gap-fits}
 use borrow.Author.Needs.{needs}
+use Rattle.lexer.proofs.Gaps.{no-gap}
 use Rattle.lexer.proofs.space.skip_gap.Statement.{statement}
 use Rattle.lexer.proofs.space.skip_gap.Tie as tie
 
-abbrev Inv-loop : tie.InvT-loop
-Inv-loop s i₀ i = (i ≤ length s) × (gap s ≡ i + gap (drop i s))
+blank-len-requires : tie.Need-blank-len-requires
+blank-len-requires c κs = search needs
 
-abbrev μ-loop : tie.MeasureT-loop
-μ-loop s i₀ i = length s - i
-
-loop-holds : tie.Need-loop-holds Inv-loop μ-loop
-loop-holds c = search needs
-
-sub-skip-len : tie.Need-sub-skip-len Inv-loop μ-loop
-sub-skip-len c = search needs
-
-part-skip-len-start : tie.Need-part-skip-len-start Inv-loop μ-loop
-part-skip-len-start c = search needs
-
-part-skip-len-end : tie.Need-part-skip-len-end Inv-loop μ-loop
-part-skip-len-end c = search needs
-
-skip-len-requires : tie.Need-skip-len-requires Inv-loop μ-loop
-skip-len-requires c κs = search needs
-
-returns : tie.Need-returns Inv-loop μ-loop
+returns : tie.Need-returns
 returns c =
-    let l = c .before .before .before .before in
-    let s = l .before .before .args .s .now in
-    let i = l .loop .i in
-    let n = c .before .skip-len .result in
-    let e = c .before .skip-len .ensures in
-    omega (arith, far-stop skipLen skipLen-le s i n e (c .if1 .taken))
+    let b = c .before in
+    omega (arith, b .blank-len .ensures .onward, far-end skipLen skipLen-le (b .before .before .args .s .now) (b .blank-len .result) 0 (c .if1 .taken))
 
-add-i : tie.Need-add-i Inv-loop μ-loop
-add-i c =
-    let l = c .before .before .before .before in
-    let s = l .before .before .args .s .now in
-    let i = l .loop .i in
-    let n = c .before .skip-len .result in
-    let e = c .before .skip-len .ensures in
-    omega (arith, far-fits skipLen skipLen-le s i n e)
+shared-slice-read-b : tie.Need-shared-slice-read-b
+shared-slice-read-b c = search needs
 
-loop-less : tie.Need-loop-less Inv-loop μ-loop
-loop-less c =
-    let l = c .before .before .before .before in
-    let s = l .before .before .args .s .now in
-    let i = l .loop .i in
-    let n = c .before .skip-len .result in
-    let e = c .before .skip-len .ensures in
-    omega (arith, far-fits skipLen skipLen-le s i n e)
+sub-skip-all : tie.Need-sub-skip-all
+sub-skip-all c = search needs
 
-loop-again : tie.Need-loop-again Inv-loop μ-loop
-loop-again c =
-    let l = c .before .before .before .before in
-    let s = l .before .before .args .s .now in
-    let i = l .loop .i in
-    let n = c .before .skip-len .result in
-    let e = c .before .skip-len .ensures in
-    omega (arith, far-fits skipLen skipLen-le s i n e, far-more skipLen skipLen-le s i n e (omega arith))
+part-skip-all-start : tie.Need-part-skip-all-start
+part-skip-all-start c = search needs
 
-returns-2 : tie.Need-returns-2 Inv-loop μ-loop
+part-skip-all-end : tie.Need-part-skip-all-end
+part-skip-all-end c = search needs
+
+skip-all-requires : tie.Need-skip-all-requires
+skip-all-requires c κs = search needs
+
+add-result : tie.Need-add-result
+add-result c =
+    let b = c .before .before .before .before .before in
+    omega (arith, b .blank-len .ensures .within, rest-gap-fits (b .before .before .args .s .now) (b .blank-len .result) (c .skip-all .ensures))
+
+returns-2 : tie.Need-returns-2
 returns-2 c =
-    let l = c .before in
-    omega (arith, far-end skipLen skipLen-le (l .before .before .args .s .now) (l .loop .i) 0 (c .loop-test .left))
+    let b = c .before .before .before .before .before in
+    omega (arith, b .blank-len .ensures .onward, rest-gap (b .before .before .args .s .now) (b .blank-len .result) (c .skip-all .ensures))
+
+sub-skip-all-2 : tie.Need-sub-skip-all-2
+sub-skip-all-2 c = search needs
+
+part-skip-all-start-2 : tie.Need-part-skip-all-start-2
+part-skip-all-start-2 c = search needs
+
+part-skip-all-end-2 : tie.Need-part-skip-all-end-2
+part-skip-all-end-2 c = search needs
+
+skip-all-requires-2 : tie.Need-skip-all-requires-2
+skip-all-requires-2 c κs = search needs
+
+add-result-2 : tie.Need-add-result-2
+add-result-2 c =
+    let b = c .before .before .before .before .before .before in
+    omega (arith, b .blank-len .ensures .within, rest-gap-fits (b .before .before .args .s .now) (b .blank-len .result) (c .skip-all2 .ensures))
+
+returns-3 : tie.Need-returns-3
+returns-3 c =
+    let b = c .before .before .before .before .before .before in
+    omega (arith, b .blank-len .ensures .onward, rest-gap (b .before .before .args .s .now) (b .blank-len .result) (c .skip-all2 .ensures))
+
+returns-4 : tie.Need-returns-4
+returns-4 c =
+    let b = c .before .before .before .before in
+    omega (arith, b .blank-len .ensures .onward, no-gap (b .before .before .args .s .now) (b .blank-len .result) (search needs) (search needs) (b .blank-len .ensures .ends) (search nums))
 
 pub skip-gap-spec : {M : Type 1} → statement M
 skip-gap-spec =
     tie.close
     (tie.spec
-    Inv-loop
-    μ-loop
-    loop-holds
-    sub-skip-len
-    part-skip-len-start
-    part-skip-len-end
-    skip-len-requires
+    blank-len-requires
     returns
-    add-i
-    loop-less
-    loop-again
-    returns-2)
+    shared-slice-read-b
+    sub-skip-all
+    part-skip-all-start
+    part-skip-all-end
+    skip-all-requires
+    add-result
+    returns-2
+    sub-skip-all-2
+    part-skip-all-start-2
+    part-skip-all-end-2
+    skip-all-requires-2
+    add-result-2
+    returns-3
+    returns-4)

@@ -9,6 +9,7 @@ use Rattle.laws.proofs.Runs.{empty, rest-count, rest-fits}
 use Rattle.laws.proofs.Tests.{nums, said}
 use Rattle.laws.proofs.Spaces.{skipLen-ascii, skipLen-beyond}
 use borrow.Author.Needs.{needs}
+use Rattle.lexer.proofs.Gaps.{white-blank}
 use Rattle.lexer.proofs.space.skip_len.Statement.{statement}
 use Rattle.lexer.proofs.space.skip_len.Tie as tie
 
@@ -30,7 +31,7 @@ is-blank-requires c κs = search needs
 
 returns-3 : tie.Need-returns-3
 returns-3 c =
-    rw (skipLen-ascii (c .before .before .before .before .before .before .args .s .now) (search needs) (search needs), said (c .before .is-blank .ensures) (c .if3 .taken))
+    rw (skipLen-ascii (c .before .before .before .before .before .before .args .s .now) (search needs) (search needs), white-blank _ (search needs) ∙ said (c .before .is-blank .ensures) (c .if3 .taken))
 
 sub-line-len : tie.Need-sub-line-len
 sub-line-len c = search needs
@@ -50,11 +51,11 @@ add-result c = omega (arith, rest-fits lineByte (c .before .before .before .befo
 returns-4 : tie.Need-returns-4
 returns-4 c =
     let s = c .before .before .before .before .before .before .before .before .before .args .s .now in
-    rw (skipLen-ascii s (search needs) (search needs), said (c .before .before .before .before .is-blank .ensures) (c .before .before .before .if3 .left), ← rest-count lineByte s 1 (c .line-len .ensures)) (search nums)
+    rw (skipLen-ascii s (search needs) (search needs), white-blank _ (search needs) ∙ said (c .before .before .before .before .is-blank .ensures) (c .before .before .before .if3 .left), ← rest-count lineByte s 1 (c .line-len .ensures)) (search nums)
 
 returns-5 : tie.Need-returns-5
 returns-5 c =
-    rw (skipLen-ascii (c .before .before .before .before .before .before .before .args .s .now) (search needs) (search needs), said (c .before .before .is-blank .ensures) (c .before .if3 .left)) (search nums)
+    rw (skipLen-ascii (c .before .before .before .before .before .before .before .args .s .now) (search needs) (search needs), white-blank _ (search needs) ∙ said (c .before .before .is-blank .ensures) (c .before .if3 .left)) (search nums)
 
 pub skip-len-spec : {M : Type 1} → statement M
 skip-len-spec =

@@ -1,0 +1,23 @@
+-- What stands next in a text, as the parser keeps it, and the reader's way past it.
+-- Assumes nothing.
+use Prim.Native.Nat.{ℕ}
+use mathlib.Core.Bool.{cond}
+use mathlib.Core.List.{List}
+use lib.Dec.{eqb}
+use Rattle.rules.specs.declared.Lexed.{Lexed}
+use Rattle.rules.specs.declared.Lexed.the-variants.{Found, End, Refused}
+use Rattle.rules.specs.declared.Spot.{Spot}
+use Rattle.rules.specs.Faults as fault
+use Rattle.rules.specs.Reading.{spotOf, lastByte}
+use Rattle.rules.specs.World.{go, stop, P, standing}
+use Rattle.parser.specs.declared.Next.{Next}
+
+-- a token, the end of a text where a token is needed, or a refusal of the lexer
+unfoldable pub nextOf : List ℕ → Lexed → Next
+nextOf text (Found t) = record { fault = fault.none; spot = spotOf t }
+nextOf text End = record { fault = fault.end; spot = lastByte text }
+nextOf text (Refused p) = record { fault = fault.lexer; spot = record { kind = 0; first = p; past = p } }
+
+-- past what stands next, which is then the last token found, with a token ahead
+unfoldable pub pass : Next → Spot → P Spot
+pass n ahead w = cond (eqb (n .fault) 0) (go (n .spot) (standing (record { at = n .spot .past; ahead = ahead; last = n .spot }) w)) (stop (n .fault) (n .spot))
