@@ -1,53 +1,66 @@
--- What the rows of the code's table say of the instructions.
+-- What the code's table says of the instructions.
 -- Assumes nothing.
-use mathlib.Core.Path.{_≡_, refl, sym, ap, _∙_}
+use mathlib.Core.Path.{_≡_, refl, sym, ap, subst⁻¹, _∙_}
 use mathlib.Core.Bool.{Bool, true, false, _&&_}
 use mathlib.Core.List.{List, [], _∷_}
 use Prim.Native.Nat.{ℕ, _+_, _-_, _*_, _≤_, _<_}
 use native.Mathlib.Omega.{arith}
 use lib.Dec.{eqb, leb}
 use lib.ListN.{length, getD, drop, take, length-drop, List·getD-eq-default}
-use lib.Seq.{length-take-le}
 use borrow.Author.Tests.{eqb-true, leb-true}
-use Rattle.rules.specs.Bytes.{same}
+use Rattle.rules.specs.Bytes.{part, same}
 use Rattle.rules.specs.Instructions.{Instruction, _takes_, instructions, names, placeOf, arityOf, instructionName}
-use Rattle.rules.specs.Out.{joined}
 use Rattle.laws.proofs.Tests.{and-left, and-right}
 use Rattle.laws.proofs.Every.{every, every-at}
 use Rattle.laws.proofs.Places.{same-eq, place-here, place-more}
 use Rattle.laws.proofs.Names.{name-of}
 use Rattle.laws.proofs.Runs.{same-long}
-use Rattle.instructions.specs.Table.{lenAt, nameAt, rows, ahead}
+use Rattle.instructions.specs.Table.{letters, places, ahead}
 
--- whether row k has the name of an instruction: one test over the whole table
+-- name k by the places where it starts and ends
+abbrev pub nameAt : List ℕ → ℕ → List ℕ
+nameAt places k = part letters (getD places k 0) (getD places (k + 1) 0)
+
+-- whether name k is an instruction's and ends where the next starts, within the letters: one test over the whole table
 unfoldable right : ℕ → Instruction → Bool
-right k i = leb (lenAt rows k) 18 && (eqb (length (nameAt rows k)) (lenAt rows k) && same (nameAt rows k) (i .name))
+right k i =
+    leb (getD places k 0 + length (i .name)) 381
+    && (eqb (getD places k 0 + length (i .name)) (getD places (k + 1) 0) && same (nameAt places k) (i .name))
 
 all-right : every right 0 instructions ≡ true
-unfolding right rows same
+unfolding right letters places same
 all-right = refl
 
-pub long : length rows ≡ 1121
-unfolding rows
+pub long : length letters ≡ 381
+unfolding letters
 long = refl
 
-module _ (k : ℕ) (h : k < 59) where
-  right-at : right k (getD instructions k ("" takes 0)) ≡ true
-  right-at = every-at right ("" takes 0) instructions all-right k h
+pub many : length places ≡ 60
+unfolding places
+many = refl
 
-  pub row-fits : lenAt rows k ≤ 18
-  unfolding right
-  row-fits = leb-true (lenAt rows k) 18 (and-left (leb (lenAt rows k) 18) _ right-at)
+-- what the test says of name k
+pub record Name (places : List ℕ) (k : ℕ) : Type 0 where
+  pub inside : getD places k 0 + length (instructionName k) ≤ 381
+  pub ends : getD places k 0 + length (instructionName k) ≡ getD places (k + 1) 0
+  pub name : nameAt places k ≡ instructionName k
 
-  whole : (eqb (length (nameAt rows k)) (lenAt rows k) && same (nameAt rows k) (instructionName k)) ≡ true
-  unfolding right instructionName
-  whole = and-right (leb (lenAt rows k) 18) _ right-at
+named : (k : ℕ) → k < 59 → Name places k
+unfolding right instructionName
+named k h =
+    let n = instructionName k in
+    let at = getD places k 0 in
+    let all : (leb (at + length n) 381 && (eqb (at + length n) (getD places (k + 1) 0) && same (nameAt places k) n)) ≡ true = every-at right ("" takes 0) instructions all-right k h in
+    let two = and-right (leb (at + length n) 381) _ all in
+    record {
+      inside = leb-true (at + length n) 381 (and-left (leb (at + length n) 381) _ all);
+      ends = eqb-true (at + length n) (getD places (k + 1) 0) (and-left (eqb (at + length n) (getD places (k + 1) 0)) _ two);
+      name = same-eq (nameAt places k) n (and-right (eqb (at + length n) (getD places (k + 1) 0)) _ two);
+    }
 
-  row-long : length (nameAt rows k) ≡ lenAt rows k
-  row-long = eqb-true (length (nameAt rows k)) (lenAt rows k) (and-left (eqb (length (nameAt rows k)) (lenAt rows k)) _ whole)
-
-  pub row-name : nameAt rows k ≡ instructionName k
-  row-name = same-eq (nameAt rows k) (instructionName k) (and-right (eqb (length (nameAt rows k)) (lenAt rows k)) _ whole)
+-- the same of a list that is said to be the places
+pub said-named : (l : List ℕ) (k : ℕ) → l ≡ places → k < 59 → Name l k
+said-named l k e h = subst⁻¹ (λ (t : List ℕ). Name t k) e (named k h)
 
 -- the arities, by one computed test too
 unfoldable pub arities : List ℕ
@@ -75,16 +88,16 @@ module _ (k : ℕ) (h : 59 ≤ k) where
   name-past = ap (λ (i : Instruction). i .name) (List·getD-eq-default instructions ("" takes 0) h)
 
 module _ (w : List ℕ) (k : ℕ) (h : k < 59) where
-  name-at : getD (names instructions) k [] ≡ nameAt rows k
+  name-at : getD (names instructions) k [] ≡ instructionName k
   unfolding instructionName
-  name-at = name-of instructions k ∙ sym (row-name k h)
+  name-at = name-of instructions k
 
-  pub here : same w (nameAt rows k) ≡ true → ahead w k ≡ 0
+  pub here : same w (instructionName k) ≡ true → ahead w k ≡ 0
   here e = place-here w (names instructions) k h (ap (same w) name-at ∙ e)
 
-  pub more : same w (nameAt rows k) ≡ false → ahead w k ≡ 1 + ahead w (k + 1)
+  pub more : same w (instructionName k) ≡ false → ahead w k ≡ 1 + ahead w (k + 1)
   more e = place-more w (names instructions) k h (ap (same w) name-at ∙ e)
 
   -- a name of another length is another name
-  pub passed : (lenAt rows k ≡ length w → ⊥) → ahead w k ≡ 1 + ahead w (k + 1)
-  passed ne = more (same-long w (nameAt rows k) (λ e. ne (sym (row-long k h) ∙ sym e)))
+  pub passed : (length (instructionName k) ≡ length w → ⊥) → ahead w k ≡ 1 + ahead w (k + 1)
+  passed ne = more (same-long w (instructionName k) (λ e. ne (sym e)))

@@ -4,51 +4,62 @@ mod table;
 
 use rules::keyword;
 use table::ARITIES;
-use table::INSTRUCTIONS;
+use table::NAMES;
+use table::STARTS;
 ghost use mathlib.Core.Path.{_≡_};
-ghost use Prim.Native.Nat.{_+_, _*_, _≤_};
+ghost use Prim.Native.Nat.{_+_, _≤_, _<_};
 ghost use lib.ListN.{length, drop};
 ghost use Rattle.rules.specs.Out.{Wrote};
 ghost use Rattle.rules.specs.Instructions.{instructionOf, arityOf, instructionName, placeOf, keywords, keywordOf};
-ghost use Rattle.instructions.specs.Table.{lenAt, nameAt, rows, ahead};
+ghost use Rattle.instructions.specs.Table.{letters, places, ahead};
 
 // The instruction that w names, by its place in the table; 59 where w names none.
 pub fn instruction(w: &[u8]) -> usize
     ensures { λ r. ⌜ r ≡ instructionOf (now (w .entry)) ⌝ }
 {
-    let table = INSTRUCTIONS;
-    let mut k = as_long(&table, w, 0);
+    let starts = STARTS;
+    let names = NAMES;
+    let mut k = as_long(&starts, w, 0);
     while k < 59 {
-        if scan::same(w, name(&table, k)) {
+        if scan::same(w, name(&names, &starts, k)) {
             return k;
         }
-        k = as_long(&table, w, k + 1);
+        k = as_long(&starts, w, k + 1);
     }
     k
 }
 
-// The next row of the table, from k on, whose name is as long as w: those before it are passed by.
-fn as_long(table: &[u8], w: &[u8], k: usize) -> usize
-    requires { ⌜ now table ≡ rows ⌝ }
+// The next name, from k on, that is as long as w: those before it are passed by.
+fn as_long(starts: &[u16], w: &[u8], k: usize) -> usize
+    requires { ⌜ now starts ≡ places ⌝ }
     requires { ⌜ k ≤ 59 ⌝ }
     ensures { λ r. ⌜ (k ≤ r) × (r ≤ 59) × (k + ahead (now (w .entry)) k ≡ r + ahead (now (w .entry)) r) ⌝ }
 {
     let mut i = k;
-    while i < 59 && table[19 * i + 18] as usize != w.len() {
+    while i < 59 && name_len(starts, i) != w.len() {
         i += 1;
     }
     i
 }
 
-// The name in row k of a table.
-fn name(table: &[u8], k: usize) -> &[u8]
-    requires { ⌜ 19 * k + 19 ≤ length (now table) ⌝ }
-    requires { ⌜ lenAt (now table) k ≤ 18 ⌝ }
-    ensures { λ r. ⌜ now r ≡ nameAt (now (table .entry)) k ⌝ }
+// How long name k of the table is.
+fn name_len(starts: &[u16], k: usize) -> usize
+    requires { ⌜ now starts ≡ places ⌝ }
+    requires { ⌜ k < 59 ⌝ }
+    ensures { λ r. ⌜ r ≡ length (instructionName k) ⌝ }
 {
-    let row = 19 * k;
-    let len = table[row + 18] as usize;
-    &table[row..row + len]
+    starts[k + 1] as usize - starts[k] as usize
+}
+
+// Name k of the table.
+fn name<'a>(names: &'a [u8], starts: &[u16], k: usize) -> &'a [u8]
+    requires { ⌜ now names ≡ letters ⌝ }
+    requires { ⌜ now starts ≡ places ⌝ }
+    requires { ⌜ k < 59 ⌝ }
+    ensures { λ r. ⌜ now r ≡ instructionName k ⌝ }
+{
+    let first = starts[k] as usize;
+    &names[first..first + name_len(starts, k)]
 }
 
 // How many operands instruction k takes; 0 past the table.
@@ -62,14 +73,20 @@ pub fn arity(k: usize) -> usize
 }
 
 // Writes the name of instruction k at the front of an output that has room for it, and answers the name's length; 0 past the table.
+// Where there is no room, the names are not laid out.
 pub fn put_instruction(k: usize, out: &mut [u8]) -> usize
     ensures { λ r. ⌜ Wrote (instructionName k) (now (out .entry)) (now (out .exit)) r ⌝ }
 {
     if 59 <= k {
         return 0;
     }
-    let table = INSTRUCTIONS;
-    output::put(name(&table, k), out)
+    let starts = STARTS;
+    let len = name_len(&starts, k);
+    if out.len() < len {
+        return len;
+    }
+    let names = NAMES;
+    output::put(name(&names, &starts, k), out)
 }
 
 // The keyword that w is, by its number; `keyword::OTHER` where w is none.

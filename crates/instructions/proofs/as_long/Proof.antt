@@ -2,36 +2,28 @@
 -- Assumes nothing.
 use mathlib.Core.Path.{_≡_, refl, sym, ap, _∙_}
 use mathlib.Core.Bool.{not, false≢true}
-use mathlib.Core.List.{List}
-use Prim.Native.Nat.{ℕ, _+_, _-_, _*_, _≤_}
+use Prim.Native.Nat.{_+_, _-_, _≤_}
 use native.Mathlib.Omega.{arith}
 use lib.ListN.{length}
+use borrow.Author.Needs.{needs}
 use borrow.Author.Tests.{eq-eqb}
-use Rattle.instructions.specs.Table.{rows, lenAt, ahead}
-use Rattle.instructions.proofs.Rows.{long, passed}
+use Rattle.rules.specs.Instructions.{instructionName}
+use Rattle.instructions.specs.Table.{ahead}
+use Rattle.instructions.proofs.Rows.{passed}
 use Rattle.instructions.proofs.as_long.Statement.{statement}
 use Rattle.instructions.proofs.as_long.Tie as tie
 
 abbrev Inv-loop : tie.InvT-loop
-Inv-loop table w k i₀ i = (k ≤ i) × (i ≤ 59) × (k + ahead w k ≡ i + ahead w i)
+Inv-loop starts w k i₀ i = (k ≤ i) × (i ≤ 59) × (k + ahead w k ≡ i + ahead w i)
 
 abbrev μ-loop : tie.MeasureT-loop
-μ-loop table w k i₀ i = 59 - i
+μ-loop starts w k i₀ i = 59 - i
 
 loop-holds : tie.Need-loop-holds Inv-loop μ-loop
 loop-holds c = (omega arith, omega arith, refl)
 
-mul-if1 : tie.Need-mul-if1 Inv-loop μ-loop
-mul-if1 c = omega arith
-
-add-if1 : tie.Need-add-if1 Inv-loop μ-loop
-add-if1 c = omega arith
-
-shared-slice-read-if1 : tie.Need-shared-slice-read-if1 Inv-loop μ-loop
-shared-slice-read-if1 c = omega (arith, ap length (c .before .before .before .pre .0) ∙ long)
-
-cast-if1 : tie.Need-cast-if1 Inv-loop μ-loop
-cast-if1 c = omega (arith, c .shared-slice-known .given (19 * c .before .before .loop .i + 18))
+name-len-requires : tie.Need-name-len-requires Inv-loop μ-loop
+name-len-requires c κs = (c .before .before .before .before .pre .0, omega arith)
 
 add-i : tie.Need-add-i Inv-loop μ-loop
 add-i c = omega arith
@@ -42,10 +34,10 @@ loop-less c = omega arith
 loop-again : tie.Need-loop-again Inv-loop μ-loop
 loop-again c =
     let l = c .before .before .before in
-    let a = l .before in
-    let other : lenAt rows (l .loop .i) ≡ length (a .args .w .now) → ⊥ =
-    λ e. false≢true (sym (ap not (eq-eqb _ _ (ap (λ (t : List ℕ). lenAt t (l .loop .i)) (a .pre .0) ∙ e))) ∙ c .if1 .taken) in
-    let e = passed (a .args .w .now) (l .loop .i) (omega arith) other in
+    let w = l .before .before .before .args .w .now in
+    let other : length (instructionName (l .loop .i)) ≡ length w → ⊥ =
+    λ e. false≢true (sym (ap not (eq-eqb _ _ (c .before .name-len .ensures ∙ e))) ∙ c .if1 .taken) in
+    let e = passed w (l .loop .i) (omega arith) other in
     (omega arith, omega arith, omega (arith, l .loop .inv .2))
 
 returns : tie.Need-returns Inv-loop μ-loop
@@ -61,10 +53,7 @@ as-long-spec =
     Inv-loop
     μ-loop
     loop-holds
-    mul-if1
-    add-if1
-    shared-slice-read-if1
-    cast-if1
+    name-len-requires
     add-i
     loop-less
     loop-again

@@ -7,22 +7,22 @@ use native.Mathlib.Omega.{arith}
 use Rattle.rules.specs.Bytes.{same}
 use Rattle.rules.specs.Instructions.{instructionOf}
 use Rattle.laws.proofs.Tests.{said}
-use Rattle.instructions.specs.Table.{rows, ahead}
-use Rattle.instructions.proofs.Rows.{row-fits, here, more}
+use Rattle.instructions.specs.Table.{letters, places, ahead}
+use Rattle.instructions.proofs.Rows.{here, more}
 use Rattle.instructions.proofs.instruction.Statement.{statement}
 use Rattle.instructions.proofs.instruction.Tie as tie
 
 abbrev Inv-loop : tie.InvT-loop
-Inv-loop w table k₀ k = (k ≤ 59) × (instructionOf w ≡ k + ahead w k)
+Inv-loop w starts names k₀ k = (k ≤ 59) × (instructionOf w ≡ k + ahead w k)
 
 abbrev μ-loop : tie.MeasureT-loop
-μ-loop w table k₀ k = 59 - k
+μ-loop w starts names k₀ k = 59 - k
 
 slice-aggregate-as-long : tie.Need-slice-aggregate-as-long Inv-loop μ-loop
 slice-aggregate-as-long c = refl
 
 as-long-requires : tie.Need-as-long-requires Inv-loop μ-loop
-unfolding rows
+unfolding places
 as-long-requires c κs = (refl, omega arith)
 
 loop-holds : tie.Need-loop-holds Inv-loop μ-loop
@@ -32,17 +32,20 @@ loop-holds c = (c .as-long .ensures .1, sym (zero-add _) ∙ c .as-long .ensures
 slice-aggregate-name : tie.Need-slice-aggregate-name Inv-loop μ-loop
 slice-aggregate-name c = refl
 
+slice-aggregate-name-2 : tie.Need-slice-aggregate-name-2 Inv-loop μ-loop
+slice-aggregate-name-2 c = refl
+
 name-requires : tie.Need-name-requires Inv-loop μ-loop
-unfolding rows
-name-requires c κs = (omega arith, row-fits (c .before .before .loop .k) (omega arith))
+unfolding letters places
+name-requires c κs = (refl, (refl, omega arith))
 
 same-requires : tie.Need-same-requires Inv-loop μ-loop
 same-requires c κs = tt
 
 returns : tie.Need-returns Inv-loop μ-loop
-unfolding rows
+unfolding letters places
 returns c =
-    let l = c .before .before .before .before .before in
+    let l = c .before .before .before .before .before .before in
     let w = l .before .before .before .before .args .w .now in
     let met = said (c .before .same .ensures ∙ ap (same w) (c .before .before .name .ensures)) (c .if1 .taken) in
     let e = here w (l .loop .k) (omega arith) met in
@@ -55,17 +58,17 @@ add-as-long : tie.Need-add-as-long Inv-loop μ-loop
 add-as-long c = omega arith
 
 as-long-requires-2 : tie.Need-as-long-requires-2 Inv-loop μ-loop
-unfolding rows
+unfolding places
 as-long-requires-2 c κs = (refl, omega arith)
 
 loop-less : tie.Need-loop-less Inv-loop μ-loop
 loop-less c = omega (arith, c .as-long2 .ensures .0)
 
 loop-again : tie.Need-loop-again Inv-loop μ-loop
-unfolding rows
+unfolding letters places
 loop-again c =
     let n = c .before .before in
-    let l = n .before .before .before .before .before in
+    let l = n .before .before .before .before .before .before in
     let w = l .before .before .before .before .args .w .now in
     let missed = said (n .before .same .ensures ∙ ap (same w) (n .before .before .name .ensures)) (n .if1 .left) in
     let e = more w (l .loop .k) (omega arith) missed in
@@ -87,6 +90,7 @@ instruction-spec =
     as-long-requires
     loop-holds
     slice-aggregate-name
+    slice-aggregate-name-2
     name-requires
     same-requires
     returns
