@@ -1,72 +1,74 @@
--- What the code's constants say of the instructions.
+-- What the code's table says of the instructions.
 -- Assumes nothing.
-use mathlib.Core.Path.{_≡_, refl, sym, ap, _∙_}
+use mathlib.Core.Path.{_≡_, refl, sym, ap, subst⁻¹, _∙_}
 use mathlib.Core.Bool.{Bool, true, false, _&&_}
 use mathlib.Core.List.{List, [], _∷_}
-use Prim.Native.Nat.{ℕ, zero, suc, _+_, _-_, _≤_, _<_}
+use Prim.Native.Nat.{ℕ, _+_, _-_, _*_, _≤_, _<_}
 use native.Mathlib.Omega.{arith}
-use native.Mathlib.Nat.{add-zero, add-assoc}
 use lib.Dec.{eqb, leb}
-use lib.ListN.{length, getD, drop, take, List·getD-eq-default}
+use lib.ListN.{length, getD, drop, take, length-drop, List·getD-eq-default}
 use borrow.Author.Tests.{eqb-true, leb-true}
-use Rattle.rules.specs.Bytes.{same, part}
+use Rattle.rules.specs.Bytes.{part, same}
 use Rattle.rules.specs.Instructions.{Instruction, _takes_, instructions, names, placeOf, arityOf, instructionName}
 use Rattle.laws.proofs.Tests.{and-left, and-right}
 use Rattle.laws.proofs.Every.{every, every-at}
 use Rattle.laws.proofs.Places.{same-eq, place-here, place-more}
 use Rattle.laws.proofs.Names.{name-of}
 use Rattle.laws.proofs.Runs.{same-long}
-use Rattle.instructions.specs.Table.{lettersOf, lengthsOf, startOf, sum, ahead}
+use Rattle.instructions.specs.Table.{letters, places, ahead}
 
--- the letters of the name of instruction k
-abbrev pub nameAt : ℕ → List ℕ
-nameAt k = part lettersOf (startOf k) (startOf k + getD lengthsOf k 0)
+-- name k by the places where it starts and ends
+abbrev pub nameAt : List ℕ → ℕ → List ℕ
+nameAt places k = part letters (getD places k 0) (getD places (k + 1) 0)
 
--- whether instruction k has its name there: one test over all of them
+-- whether name k is an instruction's and ends where the next starts, within the letters: one test over the whole table
 unfoldable right : ℕ → Instruction → Bool
 right k i =
-    leb (startOf k + getD lengthsOf k 0) 381
-    && (eqb (startOf (k + 1)) (startOf k + getD lengthsOf k 0) && (eqb (length (i .name)) (getD lengthsOf k 0) && same (nameAt k) (i .name)))
+    leb (getD places k 0 + length (i .name)) 381
+    && (eqb (getD places k 0 + length (i .name)) (getD places (k + 1) 0) && same (nameAt places k) (i .name))
 
 all-right : every right 0 instructions ≡ true
-unfolding right lettersOf lengthsOf startOf same
+unfolding right letters places same
 all-right = refl
 
-pub long : length lengthsOf ≡ 59
-unfolding lengthsOf
+pub long : length letters ≡ 381
+unfolding letters
 long = refl
 
-module _ (k : ℕ) (h : k < 59) where
-  right-at : right k (getD instructions k ("" takes 0)) ≡ true
-  right-at = every-at right ("" takes 0) instructions all-right k h
+pub many : length places ≡ 60
+unfolding places
+many = refl
 
-  pub name-ends : startOf k + getD lengthsOf k 0 ≤ 381
-  unfolding right
-  name-ends = leb-true (startOf k + getD lengthsOf k 0) 381 (and-left (leb (startOf k + getD lengthsOf k 0) 381) _ right-at)
+-- what the test says of name k
+pub record Name (places : List ℕ) (k : ℕ) : Type 0 where
+  pub inside : getD places k 0 + length (instructionName k) ≤ 381
+  pub ends : getD places k 0 + length (instructionName k) ≡ getD places (k + 1) 0
+  pub name : nameAt places k ≡ instructionName k
 
-  two : (eqb (startOf (k + 1)) (startOf k + getD lengthsOf k 0) && (eqb (length (instructionName k)) (getD lengthsOf k 0) && same (nameAt k) (instructionName k))) ≡ true
-  unfolding right instructionName
-  two = and-right (leb (startOf k + getD lengthsOf k 0) 381) _ right-at
+named : (k : ℕ) → k < 59 → Name places k
+unfolding right instructionName
+named k h =
+    let n = instructionName k in
+    let at = getD places k 0 in
+    let all : (leb (at + length n) 381 && (eqb (at + length n) (getD places (k + 1) 0) && same (nameAt places k) n)) ≡ true = every-at right ("" takes 0) instructions all-right k h in
+    let two = and-right (leb (at + length n) 381) _ all in
+    record {
+      inside = leb-true (at + length n) 381 (and-left (leb (at + length n) 381) _ all);
+      ends = eqb-true (at + length n) (getD places (k + 1) 0) (and-left (eqb (at + length n) (getD places (k + 1) 0)) _ two);
+      name = same-eq (nameAt places k) n (and-right (eqb (at + length n) (getD places (k + 1) 0)) _ two);
+    }
 
-  pub next-begins : startOf (k + 1) ≡ startOf k + getD lengthsOf k 0
-  next-begins = eqb-true (startOf (k + 1)) (startOf k + getD lengthsOf k 0) (and-left (eqb (startOf (k + 1)) (startOf k + getD lengthsOf k 0)) _ two)
-
-  three : (eqb (length (instructionName k)) (getD lengthsOf k 0) && same (nameAt k) (instructionName k)) ≡ true
-  three = and-right (eqb (startOf (k + 1)) (startOf k + getD lengthsOf k 0)) _ two
-
-  name-long : length (instructionName k) ≡ getD lengthsOf k 0
-  name-long = eqb-true (length (instructionName k)) (getD lengthsOf k 0) (and-left (eqb (length (instructionName k)) (getD lengthsOf k 0)) _ three)
-
-  pub row-name : nameAt k ≡ instructionName k
-  row-name = same-eq (nameAt k) (instructionName k) (and-right (eqb (length (instructionName k)) (getD lengthsOf k 0)) _ three)
+-- the same of a list that is said to be the places
+pub said-named : (l : List ℕ) (k : ℕ) → l ≡ places → k < 59 → Name l k
+said-named l k e h = subst⁻¹ (λ (t : List ℕ). Name t k) e (named k h)
 
 -- the arities, by one computed test too
-abbrev aritiesOf : List Instruction → List ℕ
-aritiesOf [] = []
-aritiesOf (i ∷ l) = i .arity ∷ aritiesOf l
-
 unfoldable pub arities : List ℕ
-arities = aritiesOf instructions
+arities = arityList instructions
+  where
+    arityList : List Instruction → List ℕ
+    arityList [] = []
+    arityList (i ∷ l) = i .arity ∷ arityList l
 
 right-arity : ℕ → ℕ → Bool
 right-arity k a = eqb a (arityOf k)
@@ -75,7 +77,7 @@ pub arity-at : (k : ℕ) → k < 59 → getD arities k 0 ≡ arityOf k
 unfolding right-arity arityOf arities
 arity-at k h = eqb-true (getD arities k 0) (arityOf k) (every-at right-arity 0 arities refl k h)
 
--- past the last
+-- past the table
 module _ (k : ℕ) (h : 59 ≤ k) where
   pub arity-past : arityOf k ≡ 0
   unfolding arityOf
@@ -90,16 +92,12 @@ module _ (w : List ℕ) (k : ℕ) (h : k < 59) where
   unfolding instructionName
   name-at = name-of instructions k
 
-  pub here : same w (nameAt k) ≡ true → ahead w k ≡ 0
-  here e = place-here w (names instructions) k h (ap (same w) (name-at ∙ sym (row-name k h)) ∙ e)
+  pub here : same w (instructionName k) ≡ true → ahead w k ≡ 0
+  here e = place-here w (names instructions) k h (ap (same w) name-at ∙ e)
 
-  pub more : same w (nameAt k) ≡ false → ahead w k ≡ 1 + ahead w (k + 1)
-  more e = place-more w (names instructions) k h (ap (same w) (name-at ∙ sym (row-name k h)) ∙ e)
+  pub more : same w (instructionName k) ≡ false → ahead w k ≡ 1 + ahead w (k + 1)
+  more e = place-more w (names instructions) k h (ap (same w) name-at ∙ e)
 
   -- a name of another length is another name
-  pub passed : (getD lengthsOf k 0 ≡ length w → ⊥) → ahead w k ≡ 1 + ahead w (k + 1)
-  passed ne = place-more w (names instructions) k h (ap (same w) name-at ∙ same-long w (instructionName k) (λ e. ne (sym (name-long k h) ∙ sym e)))
-
--- the letters of a name, by its first and by how many they are
-pub name-part : (k first n : ℕ) → first ≡ startOf k → getD lengthsOf k 0 ≡ n → part lettersOf first (first + n) ≡ nameAt k
-name-part k first n a b = ap (λ (f : ℕ). part lettersOf f (f + n)) a ∙ ap (λ (m : ℕ). part lettersOf (startOf k) (startOf k + m)) (sym b)
+  pub passed : (length (instructionName k) ≡ length w → ⊥) → ahead w k ≡ 1 + ahead w (k + 1)
+  passed ne = more (same-long w (instructionName k) (λ e. ne (sym e)))

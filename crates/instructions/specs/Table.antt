@@ -1,40 +1,22 @@
--- The names of the instructions as the code has them: their letters, one name behind another, and how many letters each has.
+-- The table of instructions' names as the code has it: the letters of all, one name after another, and the places where each starts.
 -- Assumes nothing.
-use Prim.Native.Nat.{ℕ, zero, suc, _+_, _≤_, _<_}
-use mathlib.Core.Path.{_≡_}
+use Prim.Native.Nat.{ℕ, _+_}
 use mathlib.Core.List.{List, [], _∷_}
-use lib.ListN.{getD, length, take, drop}
-use Rattle.rules.specs.Bytes.{part}
+use lib.ListN.{length, drop}
 use Rattle.rules.specs.Instructions.{instructions, names, placeOf}
 use Rattle.rules.specs.Out.{joined}
-use Rattle.instructions.specs.declared.Name.{Name}
 
-abbrev pub lengths : List (List ℕ) → List ℕ
-lengths [] = []
-lengths (w ∷ l) = length w ∷ lengths l
+unfoldable pub letters : List ℕ
+letters = joined (names instructions)
 
-abbrev pub sum : List ℕ → ℕ
-sum [] = 0
-sum (n ∷ l) = n + sum l
+-- where each of some words starts if the first does at a place, and where the last ends
+abbrev pub placesFrom : ℕ → List (List ℕ) → List ℕ
+placesFrom at [] = at ∷ []
+placesFrom at (w ∷ l) = at ∷ placesFrom (at + length w) l
 
-unfoldable pub lettersOf : List ℕ
-lettersOf = joined (names instructions)
-
-unfoldable pub lengthsOf : List ℕ
-lengthsOf = lengths (names instructions)
-
--- where the name of instruction k begins
-unfoldable pub startOf : ℕ → ℕ
-startOf k = sum (take k lengthsOf)
+unfoldable pub places : List ℕ
+places = placesFrom 0 (names instructions)
 
 -- the place of a word among the names from k on
 abbrev pub ahead : List ℕ → ℕ → ℕ
 ahead w k = placeOf w (drop k (names instructions))
-
--- r is at or behind n, and is as long as w; the place of w among the names from n on is its place among those from r on
-pub record AsLong (w : List ℕ) (n r : Name) : Type 0 where
-  pub onward : n .place ≤ r .place
-  pub within : r .place ≤ 59
-  pub begins : r .first ≡ startOf (r .place)
-  pub passes : n .place + ahead w (n .place) ≡ r .place + ahead w (r .place)
-  pub long : r .place < 59 → getD lengthsOf (r .place) 0 ≡ length w

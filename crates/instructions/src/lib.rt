@@ -4,76 +4,62 @@ mod table;
 
 use rules::keyword;
 use table::ARITIES;
-use table::LENGTHS;
 use table::NAMES;
+use table::STARTS;
 ghost use mathlib.Core.Path.{_≡_};
-ghost use Prim.Native.Nat.{_+_, _≤_};
-ghost use lib.ListN.{drop};
+ghost use Prim.Native.Nat.{_+_, _≤_, _<_};
+ghost use lib.ListN.{length, drop};
 ghost use Rattle.rules.specs.Out.{Wrote};
 ghost use Rattle.rules.specs.Instructions.{instructionOf, arityOf, instructionName, placeOf, keywords, keywordOf};
-ghost use Rattle.instructions.specs.Table.{lengthsOf, startOf, AsLong};
-
-// A name: its place among the instructions, and its first letter's among those of all names.
-struct Name {
-    place: usize,
-    first: usize,
-}
+ghost use Rattle.instructions.specs.Table.{letters, places, ahead};
 
 // The instruction that w names, by its place in the table; 59 where w names none.
 pub fn instruction(w: &[u8]) -> usize
     ensures { λ r. ⌜ r ≡ instructionOf (now (w .entry)) ⌝ }
 {
+    let starts = STARTS;
     let names = NAMES;
-    let lengths = LENGTHS;
-    let mut n = as_long(&lengths, w, Name { place: 0, first: 0 });
-    while n.place < 59 {
-        let place = n.place;
-        let first = n.first;
-        let past = first + w.len();
-        if scan::same(w, &names[first..past]) {
-            return place;
+    let mut k = as_long(&starts, w, 0);
+    while k < 59 {
+        if scan::same(w, name(&names, &starts, k)) {
+            return k;
         }
-        n = as_long(
-            &lengths,
-            w,
-            Name {
-                place: place + 1,
-                first: past,
-            },
-        );
+        k = as_long(&starts, w, k + 1);
     }
-    n.place
+    k
 }
 
-// The first name from n on that is as long as w: those before it are passed by.
-fn as_long(lengths: &[u8], w: &[u8], n: Name) -> Name
-    requires { ⌜ now lengths ≡ lengthsOf ⌝ }
-    requires { ⌜ n .place ≤ 59 ⌝ }
-    requires { ⌜ n .first ≡ startOf (n .place) ⌝ }
-    ensures { λ r. ⌜ AsLong (now (w .entry)) n r ⌝ }
-{
-    let mut place = n.place;
-    let mut first = n.first;
-    while place < 59 && lengths[place] as usize != w.len() {
-        first += lengths[place] as usize;
-        place += 1;
-    }
-    Name { place, first }
-}
-
-// Where the name of instruction k begins among the letters of all names.
-fn start(lengths: &[u8], k: usize) -> usize
-    requires { ⌜ now lengths ≡ lengthsOf ⌝ }
+// The next name, from k on, that is as long as w: those before it are passed by.
+fn as_long(starts: &[u16], w: &[u8], k: usize) -> usize
+    requires { ⌜ now starts ≡ places ⌝ }
     requires { ⌜ k ≤ 59 ⌝ }
-    ensures { λ r. ⌜ r ≡ startOf k ⌝ }
+    ensures { λ r. ⌜ (k ≤ r) × (r ≤ 59) × (k + ahead (now (w .entry)) k ≡ r + ahead (now (w .entry)) r) ⌝ }
 {
-    let mut first = 0;
-    let mut i = 0;
-    while i < k {
-        first += lengths[i] as usize;
+    let mut i = k;
+    while i < 59 && name_len(starts, i) != w.len() {
         i += 1;
     }
-    first
+    i
+}
+
+// How long name k of the table is.
+fn name_len(starts: &[u16], k: usize) -> usize
+    requires { ⌜ now starts ≡ places ⌝ }
+    requires { ⌜ k < 59 ⌝ }
+    ensures { λ r. ⌜ r ≡ length (instructionName k) ⌝ }
+{
+    starts[k + 1] as usize - starts[k] as usize
+}
+
+// Name k of the table.
+fn name<'a>(names: &'a [u8], starts: &[u16], k: usize) -> &'a [u8]
+    requires { ⌜ now names ≡ letters ⌝ }
+    requires { ⌜ now starts ≡ places ⌝ }
+    requires { ⌜ k < 59 ⌝ }
+    ensures { λ r. ⌜ now r ≡ instructionName k ⌝ }
+{
+    let first = starts[k] as usize;
+    &names[first..first + name_len(starts, k)]
 }
 
 // How many operands instruction k takes; 0 past the table.
@@ -87,17 +73,20 @@ pub fn arity(k: usize) -> usize
 }
 
 // Writes the name of instruction k at the front of an output that has room for it, and answers the name's length; 0 past the table.
+// Where there is no room, the names are not laid out.
 pub fn put_instruction(k: usize, out: &mut [u8]) -> usize
     ensures { λ r. ⌜ Wrote (instructionName k) (now (out .entry)) (now (out .exit)) r ⌝ }
 {
     if 59 <= k {
         return 0;
     }
+    let starts = STARTS;
+    let len = name_len(&starts, k);
+    if out.len() < len {
+        return len;
+    }
     let names = NAMES;
-    let lengths = LENGTHS;
-    let first = start(&lengths, k);
-    let past = first + lengths[k] as usize;
-    output::put(&names[first..past], out)
+    output::put(name(&names, &starts, k), out)
 }
 
 // The keyword that w is, by its number; `keyword::OTHER` where w is none.

@@ -1,5 +1,6 @@
-// The instructions, in the order of the crate's grammar comment: their names, one behind another, how many letters each has, and how many operands
-// it takes. A constant is laid out on the stack at each use, so nothing fills the names up, and the arities stand by themselves.
+// The instructions, in the order of the crate's grammar comment: their names, and how many operands each takes. A constant is laid out on the stack at
+// each use, so the names stand without gaps, and where they start and the arities, which are few bytes, are constants of their own.
+
 pub const NAMES: [u8; 381] = *b"\
     add\
     addnsw\
@@ -62,19 +63,69 @@ pub const NAMES: [u8; 381] = *b"\
     freeze\
 ";
 
-pub const LENGTHS: [u8; 59] = *b"\
-    \x03\x06\x06\x05\x03\x06\x06\x05\x03\x06\x06\x05\
-    \x04\x04\x09\x09\x04\x04\
-    \x03\x02\x03\
-    \x03\x06\x06\x05\x04\x09\x04\x09\
-    \x06\x04\x04\x05\
-    \x02\x02\x03\x03\x03\x03\
-    \x05\x05\x0a\x04\x04\
-    \x04\x04\
-    \x12\x12\x12\x12\x12\x12\
-    \x08\x08\x08\x08\
-    \x0c\x04\x06\
-";
+// Where each name starts, and at last where the names end.
+pub const STARTS: [u16; 60] = [
+    0,
+    3,
+    9,
+    15,
+    20,
+    23,
+    29,
+    35,
+    40,
+    43,
+    49,
+    55,
+    60,
+    64,
+    68,
+    77,
+    86,
+    90,
+    94,
+    97,
+    99,
+    102,
+    105,
+    111,
+    117,
+    122,
+    126,
+    135,
+    139,
+    148,
+    154,
+    158,
+    162,
+    167,
+    169,
+    171,
+    174,
+    177,
+    180,
+    183,
+    188,
+    193,
+    203,
+    207,
+    211,
+    215,
+    219,
+    237,
+    255,
+    273,
+    291,
+    309,
+    327,
+    335,
+    343,
+    351,
+    359,
+    371,
+    375,
+    381,
+];
 
 pub const ARITIES: [u8; 59] = *b"\
     \x02\x02\x02\x02\x02\x02\x02\x02\x02\x02\x02\x02\

@@ -1,4 +1,5 @@
-// Rows from the words of their tables, with their fields by name. Any words are a row; a word past the end of a table is 0.
+// Rows from the words of their tables, with their fields by name. Any words are a row; a word past the end of a table is 0. The rows that are read most
+// are read by one test where they stand within their table.
 use rules::Attribute;
 use rules::Item;
 use rules::Operand;
@@ -69,6 +70,26 @@ pub fn statement_at(statements: &[u32], i: u32) -> Statement
     ensures { λ r. ⌜ r ≡ statementAt (now (statements .entry)) i ⌝ }
 {
     let at = i as usize * STATEMENT_LENGTH;
+    if at + STATEMENT_LENGTH <= statements.len() {
+        return Statement {
+            code: statements[at],
+            name: Span {
+                first: statements[at + 1],
+                past: statements[at + 2],
+            },
+            width: statements[at + 3],
+            number: statements[at + 4],
+            block: statements[at + 5],
+            operands: Span {
+                first: statements[at + 6],
+                past: statements[at + 7],
+            },
+            attributes: Span {
+                first: statements[at + 8],
+                past: statements[at + 9],
+            },
+        };
+    }
     Statement {
         code: word_at(statements, at),
         name: span_at(statements, at + 1),
@@ -85,6 +106,19 @@ pub fn operand_at(operands: &[u32], i: u32) -> Operand
     ensures { λ r. ⌜ r ≡ operandAt (now (operands .entry)) i ⌝ }
 {
     let at = i as usize * OPERAND_LENGTH;
+    if at + OPERAND_LENGTH <= operands.len() {
+        return Operand {
+            code: operands[at],
+            row: operands[at + 1],
+            width: operands[at + 2],
+            bits: Words {
+                a: operands[at + 3],
+                b: operands[at + 4],
+                c: operands[at + 5],
+                d: operands[at + 6],
+            },
+        };
+    }
     Operand {
         code: word_at(operands, at),
         row: word_at(operands, at + 1),

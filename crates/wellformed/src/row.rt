@@ -1,4 +1,5 @@
-// Rows by value. A word past a table's end reads as 0, so any row of any table may be asked for.
+// Rows by value. A word past a table's end reads as 0, so any row of any table may be asked for. The rows that are most are read by one test where they
+// stand within their table.
 use rules::Attribute;
 use rules::Item;
 use rules::Operand;
@@ -67,6 +68,27 @@ pub fn item_at(items: &[u32], i: u32) -> Item
 pub fn statement_at(statements: &[u32], i: u32) -> Statement
     ensures { λ r. ⌜ r ≡ statementAt (now (statements .entry)) i ⌝ }
 {
+    let at = i as usize * STATEMENT_LENGTH;
+    if at + STATEMENT_LENGTH <= statements.len() {
+        return Statement {
+            code: statements[at],
+            name: Span {
+                first: statements[at + 1],
+                past: statements[at + 2],
+            },
+            width: statements[at + 3],
+            number: statements[at + 4],
+            block: statements[at + 5],
+            operands: Span {
+                first: statements[at + 6],
+                past: statements[at + 7],
+            },
+            attributes: Span {
+                first: statements[at + 8],
+                past: statements[at + 9],
+            },
+        };
+    }
     Statement {
         code: word(statements, STATEMENT_LENGTH, i, 0),
         name: span(statements, STATEMENT_LENGTH, i, 1),
@@ -82,6 +104,20 @@ pub fn statement_at(statements: &[u32], i: u32) -> Statement
 pub fn operand_at(operands: &[u32], i: u32) -> Operand
     ensures { λ r. ⌜ r ≡ operandAt (now (operands .entry)) i ⌝ }
 {
+    let at = i as usize * OPERAND_LENGTH;
+    if at + OPERAND_LENGTH <= operands.len() {
+        return Operand {
+            code: operands[at],
+            row: operands[at + 1],
+            width: operands[at + 2],
+            bits: Words {
+                a: operands[at + 3],
+                b: operands[at + 4],
+                c: operands[at + 5],
+                d: operands[at + 6],
+            },
+        };
+    }
     Operand {
         code: word(operands, OPERAND_LENGTH, i, 0),
         row: word(operands, OPERAND_LENGTH, i, 1),

@@ -7,5 +7,6 @@ pub mod LastDigit
 pub mod Unsigned
 pub mod Signed
 pub mod Decimals
+pub mod Short
 pub mod ReadsBack
 pub mod Examples

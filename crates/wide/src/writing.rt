@@ -3,7 +3,7 @@ use crate::WORD;
 use crate::Wide;
 ghost use mathlib.Core.Path.{_≡_};
 ghost use mathlib.Core.List.{_++_};
-ghost use Prim.Native.Nat.{_/_, _%_, _≤_};
+ghost use Prim.Native.Nat.{_/_, _%_, _≤_, _<_};
 ghost use lib.Dec.{ltb};
 ghost use lib.ListN.{length, drop};
 ghost use Rattle.rules.specs.Integers.{digits, decimal};
@@ -29,6 +29,16 @@ impl Wide {
 
     // Writes the decimal where there is room for it, and answers how many bytes it has.
     pub fn write_decimal(self, out: &mut [u8]) -> usize
+        ensures { λ r. ⌜ Wrote (decimal (bits self)) (now (out .entry)) (now (out .exit)) r ⌝ }
+    {
+        if self.is_short() {
+            return write_short(self.lo as u8, out);
+        }
+        self.write_any(out)
+    }
+
+    // The same, whatever the integer.
+    fn write_any(self, out: &mut [u8]) -> usize
         ensures { λ r. ⌜ Wrote (decimal (bits self)) (now (out .entry)) (now (out .exit)) r ⌝ }
     {
         let n = self.decimal_len();
@@ -82,6 +92,13 @@ impl Wide {
         self.hi == 0 && self.lo < 10
     }
 
+    // Whether the bits have one or two digits, as most integers of a text do.
+    fn is_short(self) -> bool
+        ensures { λ r. ⌜ r ≡ ltb (bits self) 100 ⌝ }
+    {
+        self.hi == 0 && self.lo < 100
+    }
+
     // The bits divided by ten.
     fn tenth(self) -> Divided
         ensures { λ r. ⌜ (bits (r .quotient) ≡ bits self / 10) × (r .rest ≡ bits self % 10) ⌝ }
@@ -105,4 +122,24 @@ impl Wide {
             rest: (b % 10) as u8,
         }
     }
+}
+
+// Writes a number of one or two digits where there is room for it, and answers how many they are.
+fn write_short(n: u8, out: &mut [u8]) -> usize
+    requires { ⌜ n < 100 ⌝ }
+    ensures { λ r. ⌜ Wrote (decimal n) (now (out .entry)) (now (out .exit)) r ⌝ }
+{
+    if n < 10 {
+        if out.len() < 1 {
+            return 1;
+        }
+        out[0] = b'0' + n;
+        return 1;
+    }
+    if out.len() < 2 {
+        return 2;
+    }
+    out[0] = b'0' + n / 10;
+    out[1] = b'0' + n % 10;
+    2
 }

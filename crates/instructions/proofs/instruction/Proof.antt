@@ -1,100 +1,84 @@
--- The loop's invariant: the word's place is n's and its place among the names from n on.
+-- The loop's invariant: the word's place is k and its place among the names from k on.
 -- Assumes nothing.
 use mathlib.Core.Path.{_≡_, refl, sym, ap, _∙_}
-use Prim.Native.Nat.{_+_, _-_, _≤_, _<_}
+use Prim.Native.Nat.{_+_, _-_, _≤_}
 use native.Mathlib.Nat.{zero-add}
 use native.Mathlib.Omega.{arith}
-use lib.ListN.{length, getD}
 use Rattle.rules.specs.Bytes.{same}
 use Rattle.rules.specs.Instructions.{instructionOf}
 use Rattle.laws.proofs.Tests.{said}
-use Rattle.instructions.specs.Table.{lettersOf, lengthsOf, startOf, ahead}
-use Rattle.instructions.proofs.Rows.{name-ends, next-begins, name-part, here, more}
+use Rattle.instructions.specs.Table.{letters, places, ahead}
+use Rattle.instructions.proofs.Rows.{here, more}
 use Rattle.instructions.proofs.instruction.Statement.{statement}
 use Rattle.instructions.proofs.instruction.Tie as tie
 
 abbrev Inv-loop : tie.InvT-loop
-Inv-loop w names lengths n₀ n =
-    (n .place ≤ 59) × (n .first ≡ startOf (n .place)) × (instructionOf w ≡ n .place + ahead w (n .place)) × (n .place < 59 → getD lengthsOf (n .place) 0 ≡ length w)
+Inv-loop w starts names k₀ k = (k ≤ 59) × (instructionOf w ≡ k + ahead w k)
 
 abbrev μ-loop : tie.MeasureT-loop
-μ-loop w names lengths n₀ n = 59 - n .place
+μ-loop w starts names k₀ k = 59 - k
 
 slice-aggregate-as-long : tie.Need-slice-aggregate-as-long Inv-loop μ-loop
 slice-aggregate-as-long c = refl
 
 as-long-requires : tie.Need-as-long-requires Inv-loop μ-loop
-unfolding lengthsOf startOf
-as-long-requires c κs = (refl, (omega arith, refl))
+unfolding places
+as-long-requires c κs = (refl, omega arith)
 
 loop-holds : tie.Need-loop-holds Inv-loop μ-loop
 unfolding instructionOf
-loop-holds c =
-    let e = c .as-long .ensures in
-    (e .within, e .begins, sym (zero-add _) ∙ e .passes, e .long)
+loop-holds c = (c .as-long .ensures .1, sym (zero-add _) ∙ c .as-long .ensures .2)
 
-add-past : tie.Need-add-past Inv-loop μ-loop
-add-past c =
-    let l = c .before .before .loop in
-    omega (arith, name-ends (l .n .place) (omega arith), l .inv .1, l .inv .3 (omega arith))
+slice-aggregate-name : tie.Need-slice-aggregate-name Inv-loop μ-loop
+slice-aggregate-name c = refl
 
-sub-same : tie.Need-sub-same Inv-loop μ-loop
-sub-same c = omega arith
+slice-aggregate-name-2 : tie.Need-slice-aggregate-name-2 Inv-loop μ-loop
+slice-aggregate-name-2 c = refl
 
-part-same-start : tie.Need-part-same-start Inv-loop μ-loop
-part-same-start c = omega arith
-
-part-same-end : tie.Need-part-same-end Inv-loop μ-loop
-part-same-end c =
-    let l = c .before .before .before .loop in
-    omega (arith, name-ends (l .n .place) (omega arith), l .inv .1, l .inv .3 (omega arith))
+name-requires : tie.Need-name-requires Inv-loop μ-loop
+unfolding letters places
+name-requires c κs = (refl, (refl, omega arith))
 
 same-requires : tie.Need-same-requires Inv-loop μ-loop
 same-requires c κs = tt
 
 returns : tie.Need-returns Inv-loop μ-loop
-unfolding lettersOf
+unfolding letters places
 returns c =
-    let b = c .before .before .before .before .before .before in
-    let l = b .loop in
-    let w = b .before .before .before .before .args .w .now in
-    let k = l .n .place in
-    let met = said (c .before .same .ensures ∙ ap (same w) (name-part k (l .n .first) (length w) (l .inv .1) (l .inv .3 (omega arith)))) (c .if2 .taken) in
-    let e = here w k (omega arith) met in
-    omega (arith, l .inv .2)
+    let l = c .before .before .before .before .before .before in
+    let w = l .before .before .before .before .args .w .now in
+    let met = said (c .before .same .ensures ∙ ap (same w) (c .before .before .name .ensures)) (c .if1 .taken) in
+    let e = here w (l .loop .k) (omega arith) met in
+    omega (arith, l .loop .inv .1)
 
 slice-aggregate-as-long-2 : tie.Need-slice-aggregate-as-long-2 Inv-loop μ-loop
 slice-aggregate-as-long-2 c = refl
 
-add-t14 : tie.Need-add-t14 Inv-loop μ-loop
-add-t14 c = omega arith
+add-as-long : tie.Need-add-as-long Inv-loop μ-loop
+add-as-long c = omega arith
 
 as-long-requires-2 : tie.Need-as-long-requires-2 Inv-loop μ-loop
-unfolding lengthsOf
-as-long-requires-2 c κs =
-    let l = c .before .before .before .before .before .before .before .loop in
-    (refl, (omega arith, omega (arith, next-begins (l .n .place) (omega arith), l .inv .1, l .inv .3 (omega arith))))
+unfolding places
+as-long-requires-2 c κs = (refl, omega arith)
 
 loop-less : tie.Need-loop-less Inv-loop μ-loop
-loop-less c = omega (arith, c .as-long2 .ensures .onward)
+loop-less c = omega (arith, c .as-long2 .ensures .0)
 
 loop-again : tie.Need-loop-again Inv-loop μ-loop
-unfolding lettersOf
+unfolding letters places
 loop-again c =
-    let b = c .before .before .before .before .before .before .before .before in
-    let l = b .loop in
-    let w = b .before .before .before .before .args .w .now in
-    let k = l .n .place in
-    let a = c .as-long2 .ensures in
-    let missed = said (c .before .before .before .same .ensures ∙ ap (same w) (name-part k (l .n .first) (length w) (l .inv .1) (l .inv .3 (omega arith)))) (c .before .before .if2 .left) in
-    let e = more w k (omega arith) missed in
-    (a .within, a .begins, omega (arith, l .inv .2, a .passes), a .long)
+    let n = c .before .before in
+    let l = n .before .before .before .before .before .before in
+    let w = l .before .before .before .before .args .w .now in
+    let missed = said (n .before .same .ensures ∙ ap (same w) (n .before .before .name .ensures)) (n .if1 .left) in
+    let e = more w (l .loop .k) (omega arith) missed in
+    (c .as-long2 .ensures .1, omega (arith, l .loop .inv .1, c .as-long2 .ensures .2))
 
 returns-2 : tie.Need-returns-2 Inv-loop μ-loop
 returns-2 c =
-    let l = c .before .before .loop in
-    let e : l .n .place ≡ 59 = omega arith in
-    omega (arith, rw e at (l .inv .2))
+    let l = c .before in
+    let e : l .loop .k ≡ 59 = omega arith in
+    omega (arith, rw e at (l .loop .inv .1))
 
 pub instruction-spec : {M : Type 1} → statement M
 instruction-spec =
@@ -105,14 +89,13 @@ instruction-spec =
     slice-aggregate-as-long
     as-long-requires
     loop-holds
-    add-past
-    sub-same
-    part-same-start
-    part-same-end
+    slice-aggregate-name
+    slice-aggregate-name-2
+    name-requires
     same-requires
     returns
     slice-aggregate-as-long-2
-    add-t14
+    add-as-long
     as-long-requires-2
     loop-less
     loop-again

@@ -1,44 +1,37 @@
--- What is written is the name that stands among the letters, which is the instruction's.
+-- What is written is the table's name, which is the instruction's.
 -- Assumes nothing.
-use mathlib.Core.Path.{refl, sym, _∙_}
+use mathlib.Core.Path.{refl, sym}
 use native.Mathlib.Omega.{arith}
 use borrow.Author.Needs.{needs}
 use Rattle.laws.proofs.Over.{nothing, written}
-use Rattle.instructions.specs.Table.{lettersOf, lengthsOf}
-use Rattle.instructions.proofs.Rows.{name-ends, name-part, row-name, name-past}
+use Rattle.instructions.specs.Table.{letters, places}
+use Rattle.instructions.proofs.Rows.{name-past}
 use Rattle.instructions.proofs.put_instruction.Statement.{statement}
 use Rattle.instructions.proofs.put_instruction.Tie as tie
 
 returns : tie.Need-returns
 returns c = written (name-past (c .before .before .args .k) (omega arith)) nothing
 
-slice-aggregate-start : tie.Need-slice-aggregate-start
-slice-aggregate-start c = search needs
+slice-aggregate-name-len : tie.Need-slice-aggregate-name-len
+slice-aggregate-name-len c = refl
 
-start-requires : tie.Need-start-requires
-unfolding lengthsOf
-start-requires c κs = (refl, omega arith)
+name-len-requires : tie.Need-name-len-requires
+unfolding places
+name-len-requires c κs = (refl, omega arith)
 
-array-read-past : tie.Need-array-read-past
-array-read-past c = search needs
+returns-2 : tie.Need-returns-2
+unfolding places
+returns-2 c = record { count = c .before .name-len .ensures; bytes = λ h. absurd (omega (arith, c .before .name-len .ensures)); long = refl }
 
-cast-past : tie.Need-cast-past
-unfolding lengthsOf
-cast-past c = omega (arith, name-ends (c .before .before .before .before .args .k) (omega arith))
+slice-aggregate-name : tie.Need-slice-aggregate-name
+slice-aggregate-name c = refl
 
-add-past : tie.Need-add-past
-unfolding lengthsOf
-add-past c = omega (arith, name-ends (c .before .before .before .before .args .k) (omega arith), c .start .ensures)
+slice-aggregate-name-2 : tie.Need-slice-aggregate-name-2
+slice-aggregate-name-2 c = refl
 
-sub-put : tie.Need-sub-put
-sub-put c = search needs
-
-part-put-start : tie.Need-part-put-start
-part-put-start c = search needs
-
-part-put-end : tie.Need-part-put-end
-unfolding lengthsOf
-part-put-end c = omega (arith, name-ends (c .before .before .before .before .before .args .k) (omega arith), c .before .start .ensures)
+name-requires : tie.Need-name-requires
+unfolding letters places
+name-requires c κs = (refl, (refl, omega arith))
 
 put-requires : tie.Need-put-requires
 put-requires c κs = search needs
@@ -46,26 +39,22 @@ put-requires c κs = search needs
 same-length : tie.Need-same-length
 same-length c = search needs
 
-returns-2 : tie.Need-returns-2
-unfolding lettersOf lengthsOf
-returns-2 c =
-    let e = c .before .before .before .before .before .before in
-    let k = e .before .before .before .before .args .k in
-    written (sym (name-part k (e .start .result) _ (e .start .ensures) refl ∙ row-name k (omega arith))) (c .before .before .put .ensures)
+returns-3 : tie.Need-returns-3
+unfolding letters places
+returns-3 c =
+    written (sym (c .before .before .before .before .name .ensures)) (c .before .before .put .ensures)
 
 pub put-instruction-spec : {M : Type 1} → statement M
 put-instruction-spec =
     tie.close
     (tie.spec
     returns
-    slice-aggregate-start
-    start-requires
-    array-read-past
-    cast-past
-    add-past
-    sub-put
-    part-put-start
-    part-put-end
+    slice-aggregate-name-len
+    name-len-requires
+    returns-2
+    slice-aggregate-name
+    slice-aggregate-name-2
+    name-requires
     put-requires
     same-length
-    returns-2)
+    returns-3)

@@ -1,5 +1,6 @@
--- `pieces::fields::statement_at` meets its contract.
+-- `pieces::fields::statement_at` meets its contract. Words past the table are 0.
 -- Assumes nothing.
+use mathlib.Core.Path.{refl}
 use Rattle.rules.specs.Rows.{statementLength}
 use Rattle.pieces.proofs.Records.{first-word, span-word, statement-row}
 use borrow.Author.Needs.{needs}
@@ -8,6 +9,102 @@ use Rattle.pieces.proofs.fields.statement_at.Tie as tie
 
 mul-at : tie.Need-mul-at
 mul-at c = search needs
+
+add-if1 : tie.Need-add-if1
+add-if1 c = search needs
+
+mul-t7 : tie.Need-mul-t7
+mul-t7 c = search needs
+
+shared-slice-read-t9 : tie.Need-shared-slice-read-t9
+shared-slice-read-t9 c = search needs
+
+add-t10 : tie.Need-add-t10
+add-t10 c = search needs
+
+mul-t11 : tie.Need-mul-t11
+mul-t11 c = search needs
+
+shared-slice-read-t13 : tie.Need-shared-slice-read-t13
+shared-slice-read-t13 c = search needs
+
+add-t14 : tie.Need-add-t14
+add-t14 c = search needs
+
+mul-t15 : tie.Need-mul-t15
+mul-t15 c = search needs
+
+shared-slice-read-t17 : tie.Need-shared-slice-read-t17
+shared-slice-read-t17 c = search needs
+
+add-t19 : tie.Need-add-t19
+add-t19 c = search needs
+
+mul-t20 : tie.Need-mul-t20
+mul-t20 c = search needs
+
+shared-slice-read-t22 : tie.Need-shared-slice-read-t22
+shared-slice-read-t22 c = search needs
+
+add-t23 : tie.Need-add-t23
+add-t23 c = search needs
+
+mul-t24 : tie.Need-mul-t24
+mul-t24 c = search needs
+
+shared-slice-read-t26 : tie.Need-shared-slice-read-t26
+shared-slice-read-t26 c = search needs
+
+add-t27 : tie.Need-add-t27
+add-t27 c = search needs
+
+mul-t28 : tie.Need-mul-t28
+mul-t28 c = search needs
+
+shared-slice-read-t30 : tie.Need-shared-slice-read-t30
+shared-slice-read-t30 c = search needs
+
+add-t31 : tie.Need-add-t31
+add-t31 c = search needs
+
+mul-t32 : tie.Need-mul-t32
+mul-t32 c = search needs
+
+shared-slice-read-t34 : tie.Need-shared-slice-read-t34
+shared-slice-read-t34 c = search needs
+
+add-t35 : tie.Need-add-t35
+add-t35 c = search needs
+
+mul-t36 : tie.Need-mul-t36
+mul-t36 c = search needs
+
+shared-slice-read-t38 : tie.Need-shared-slice-read-t38
+shared-slice-read-t38 c = search needs
+
+add-t40 : tie.Need-add-t40
+add-t40 c = search needs
+
+mul-t41 : tie.Need-mul-t41
+mul-t41 c = search needs
+
+shared-slice-read-t43 : tie.Need-shared-slice-read-t43
+shared-slice-read-t43 c = search needs
+
+add-t44 : tie.Need-add-t44
+add-t44 c = search needs
+
+mul-t45 : tie.Need-mul-t45
+mul-t45 c = search needs
+
+shared-slice-read-t47 : tie.Need-shared-slice-read-t47
+shared-slice-read-t47 c = search needs
+
+returns : tie.Need-returns
+returns c =
+    let words = c .before .before .before .before .before .before .before .before .before .before .before .before .args .statements .now in
+    let i = c .before .before .before .before .before .before .before .before .before .before .before .before .args .i in
+    statement-row words i (first-word statementLength words i refl) refl refl refl refl refl refl
 
 word-at-requires : tie.Need-word-at-requires
 word-at-requires c κs = search needs
@@ -48,10 +145,10 @@ add-span-at-3 c = search needs
 span-at-requires-3 : tie.Need-span-at-requires-3
 span-at-requires-3 c κs = search needs
 
-returns : tie.Need-returns
-returns c =
-    let words = c .before .before .before .before .before .before .before .before .args .statements .now in
-    let i = c .before .before .before .before .before .before .before .before .args .i in
+returns-2 : tie.Need-returns-2
+returns-2 c =
+    let words = c .before .before .before .before .before .before .before .before .before .args .statements .now in
+    let i = c .before .before .before .before .before .before .before .before .before .args .i in
     statement-row words i (first-word statementLength words i (c .before .before .before .before .before .before .word-at .ensures)) (span-word statementLength words i 1 (c .before .before .before .before .before .span-at .ensures)) (c .before .before .before .before .word-at2 .ensures) (c .before .before .before .word-at3 .ensures)
     (c .before .before .word-at4 .ensures) (span-word statementLength words i 6 (c .before .span-at2 .ensures)) (span-word statementLength words i 8 (c .span-at3 .ensures))
 
@@ -60,6 +157,37 @@ statement-at-spec =
     tie.close
     (tie.spec
     mul-at
+    add-if1
+    mul-t7
+    shared-slice-read-t9
+    add-t10
+    mul-t11
+    shared-slice-read-t13
+    add-t14
+    mul-t15
+    shared-slice-read-t17
+    add-t19
+    mul-t20
+    shared-slice-read-t22
+    add-t23
+    mul-t24
+    shared-slice-read-t26
+    add-t27
+    mul-t28
+    shared-slice-read-t30
+    add-t31
+    mul-t32
+    shared-slice-read-t34
+    add-t35
+    mul-t36
+    shared-slice-read-t38
+    add-t40
+    mul-t41
+    shared-slice-read-t43
+    add-t44
+    mul-t45
+    shared-slice-read-t47
+    returns
     word-at-requires
     add-span-at
     span-at-requires
@@ -73,4 +201,4 @@ statement-at-spec =
     span-at-requires-2
     add-span-at-3
     span-at-requires-3
-    returns)
+    returns-2)
