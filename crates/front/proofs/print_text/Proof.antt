@@ -2,7 +2,7 @@
 -- Assumes nothing.
 use borrow.Author.Needs.{needs}
 use Prim.Native.Nat.{ℕ}
-use mathlib.Core.Path.{_≡_}
+use mathlib.Core.Path.{_≡_, sym}
 use lib.ListN.{length, replicate, length-replicate}
 use Rattle.front.proofs.print_text.Statement.{statement}
 use Rattle.front.proofs.print_text.Tie as tie
@@ -11,19 +11,19 @@ zeros : (n : ℕ) → length {A = ℕ} (replicate n 0) ≡ n
 zeros n = length-replicate {A = ℕ} n 0
 
 slice-aggregate-print-with : tie.Need-slice-aggregate-print-with
-slice-aggregate-print-with c = search needs
+slice-aggregate-print-with c = sym (zeros 294912)
 
 slice-aggregate-print-with-2 : tie.Need-slice-aggregate-print-with-2
-slice-aggregate-print-with-2 c = search needs
+slice-aggregate-print-with-2 c = sym (zeros 218460)
 
 slice-aggregate-print-with-3 : tie.Need-slice-aggregate-print-with-3
-slice-aggregate-print-with-3 c = search needs
+slice-aggregate-print-with-3 c = sym (zeros 458752)
 
 slice-aggregate-print-with-4 : tie.Need-slice-aggregate-print-with-4
-slice-aggregate-print-with-4 c = search needs
+slice-aggregate-print-with-4 c = sym (zeros 240306)
 
 slice-aggregate-print-with-5 : tie.Need-slice-aggregate-print-with-5
-slice-aggregate-print-with-5 c = search needs
+slice-aggregate-print-with-5 c = sym (zeros 131073)
 
 print-with-requires : tie.Need-print-with-requires
 print-with-requires c κs =
