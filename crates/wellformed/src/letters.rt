@@ -1,6 +1,5 @@
 // Names and patterns: places in the text, and the letters there.
 use rules::Span;
-use tables::STATEMENT_LENGTH;
 use tables::letters;
 use tables::name_at;
 ghost use mathlib.Core.Path.{_≡_};
@@ -85,14 +84,10 @@ pub fn no_span(s: Span) -> bool
     s.first == 0 && s.past == 0
 }
 
-// Whether statement row k has a name. The test of tables asks this most, so a row within the table is read at once.
+// Whether statement row k has a name.
 fn has_name(text: &[u8], statements: &[u32], k: u32, name: &[u8]) -> bool
     ensures { λ r. ⌜ r ≡ sameBytes (nameAt (now (text .entry)) (now (statements .entry)) k) (now (name .entry)) ⌝ }
 {
-    let at = k as usize * STATEMENT_LENGTH;
-    if at + 2 < statements.len() {
-        return scan::same(letters(text, statements[at + 1], statements[at + 2]), name);
-    }
     let s = name_at(statements, k);
     scan::same(letters(text, s.first, s.past), name)
 }
