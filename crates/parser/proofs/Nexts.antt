@@ -17,7 +17,7 @@ use Rattle.rules.specs.Tokens.{tokenAt}
 use Rattle.rules.specs.World.{World, go, stop, P, bind}
 use Rattle.laws.proofs.Tests.{cond-true}
 use Rattle.laws.proofs.Tokens.{found-kind}
-use Rattle.parser.specs.Next.{nextOf, pass}
+use Rattle.parser.specs.Next.{nextOf, spotNext, pass}
 
 -- what is done with a token that was looked at, to take it
 abbrev take : Spot → P Spot
@@ -29,14 +29,14 @@ seen-end text (Found t) w e = absurd (omega arith)
 seen-end text End w e = refl
 seen-end text (Refused p) w e = absurd (omega arith)
 
-seen-more : (text : List ℕ) (l : Lexed) (w : World) → (nextOf text l .fault ≡ fault.end → ⊥) → R.seen l w ≡ pass (nextOf text l) (nextOf text l .spot) w
-unfolding nextOf pass R.seen
+seen-more : (text : List ℕ) (l : Lexed) (w : World) → (nextOf text l .fault ≡ fault.end → ⊥) → R.seen l w ≡ pass (nextOf text l) (spotNext (nextOf text l)) w
+unfolding nextOf spotNext pass R.seen
 seen-more text (Found t) w h = refl
 seen-more text End w h = absurd (h refl)
 seen-more text (Refused p) w h = refl
 
 seen-taken : (l : Lexed) (w : World) → w .stand .ahead .kind ≡ 0 → ((t : Token) → l ≡ Found t → 1 ≤ t .kind) → bind (R.seen l w) take ≡ pass (nextOf (w .text) l) R.nothing w
-unfolding nextOf pass R.seen
+unfolding nextOf spotNext pass R.seen
 seen-taken (Found t) w e k = let h = k t refl in rw (ne-eqb (t .kind) 0 (λ z. omega arith))
 seen-taken End w e k = rw (eq-eqb _ _ e)
 seen-taken (Refused p) w e k = refl
@@ -49,7 +49,7 @@ module _ (w : World) (none : w .stand .ahead .kind ≡ 0) where
   pub look-end : nextOf (w .text) (tokenAt (w .text) (w .stand .at)) .fault ≡ fault.end → R.lookahead w ≡ go (w .stand .ahead) w
   look-end e = looks ∙ seen-end (w .text) _ w e
 
-  pub look-more : (nextOf (w .text) (tokenAt (w .text) (w .stand .at)) .fault ≡ fault.end → ⊥) → R.lookahead w ≡ pass (nextOf (w .text) (tokenAt (w .text) (w .stand .at))) (nextOf (w .text) (tokenAt (w .text) (w .stand .at)) .spot) w
+  pub look-more : (nextOf (w .text) (tokenAt (w .text) (w .stand .at)) .fault ≡ fault.end → ⊥) → R.lookahead w ≡ pass (nextOf (w .text) (tokenAt (w .text) (w .stand .at))) (spotNext (nextOf (w .text) (tokenAt (w .text) (w .stand .at)))) w
   look-more h = looks ∙ seen-more (w .text) _ w h
 
   pub takes : R.token w ≡ pass (nextOf (w .text) (tokenAt (w .text) (w .stand .at))) R.nothing w

@@ -14,10 +14,14 @@ use Rattle.parser.specs.declared.Next.{Next}
 
 -- a token, the end of a text where a token is needed, or a refusal of the lexer
 unfoldable pub nextOf : List ℕ → Lexed → Next
-nextOf text (Found t) = record { fault = fault.none; spot = spotOf t }
-nextOf text End = record { fault = fault.end; spot = lastByte text }
-nextOf text (Refused p) = record { fault = fault.lexer; spot = record { kind = 0; first = p; past = p } }
+nextOf text (Found t) = record { fault = fault.none; kind = t .kind; first = t .first; past = t .past }
+nextOf text End = record { fault = fault.end; kind = 0; first = lastByte text .first; past = lastByte text .past }
+nextOf text (Refused p) = record { fault = fault.lexer; kind = 0; first = p; past = p }
+
+-- its token, or the place of what is at fault
+unfoldable pub spotNext : Next → Spot
+spotNext n = record { kind = n .kind; first = n .first; past = n .past }
 
 -- past what stands next, which is then the last token found, with a token ahead
 unfoldable pub pass : Next → Spot → P Spot
-pass n ahead w = cond (eqb (n .fault) 0) (go (n .spot) (standing (record { at = n .spot .past; ahead = ahead; last = n .spot }) w)) (stop (n .fault) (n .spot))
+pass n ahead w = cond (eqb (n .fault) 0) (go (spotNext n) (standing (record { at = n .past; ahead = ahead; last = spotNext n }) w)) (stop (n .fault) (spotNext n))

@@ -26,7 +26,7 @@ ghost use Rattle.rules.specs.Tokens.{tokenAt};
 ghost use Rattle.tables.specs.Stands.{world, out, stands, run};
 ghost use Rattle.rules.specs.Faults.{integer};
 ghost use Rattle.wide.specs.Wide.{bits, asField};
-ghost use Rattle.parser.specs.Next.{nextOf, pass};
+ghost use Rattle.parser.specs.Next.{nextOf, spotNext, pass};
 
 // A state and an integer.
 pub struct Integer {
@@ -40,10 +40,12 @@ pub struct Number {
     pub value: u32,
 }
 
-// What stands next in a text: a token, or what is at fault and where.
+// What stands next in a text: a token, or what is at fault and where. Its fields are plain words: a token is copied field by field, as it was stored.
 struct Next {
     fault: u32,
-    spot: Spot,
+    kind: u32,
+    first: u32,
+    past: u32,
 }
 
 // The text's last byte; 0 for the empty text.
@@ -71,37 +73,48 @@ fn lexed(text: &[u8], from: u32) -> Next
     match lexer::next_token(text, Cursor { at }) {
         Lexed::Found(t) => Next {
             fault: fault::NONE,
-            spot: Spot {
-                kind: t.kind,
-                first: t.first as u32,
-                past: t.past as u32,
-            },
+            kind: t.kind,
+            first: t.first as u32,
+            past: t.past as u32,
         },
-        Lexed::End => Next {
-            fault: fault::END,
-            spot: last_byte(text),
-        },
+        Lexed::End => {
+            let spot = last_byte(text);
+            Next {
+                fault: fault::END,
+                kind: spot.kind,
+                first: spot.first,
+                past: spot.past,
+            }
+        }
         Lexed::Refused(p) => Next {
             fault: fault::LEXER,
-            spot: Spot {
-                kind: 0,
-                first: p as u32,
-                past: p as u32,
-            },
+            kind: 0,
+            first: p as u32,
+            past: p as u32,
         },
+    }
+}
+
+// The token that stands next, or the place of what is at fault.
+fn spot(n: Next) -> Spot
+    ensures { λ r. ⌜ r ≡ spotNext n ⌝ }
+{
+    Spot {
+        kind: n.kind,
+        first: n.first,
+        past: n.past,
     }
 }
 
 // The state past what stands next, which is then the last token found, with a token ahead; or at fault there.
 fn past(s: State, n: Next, ahead: Spot) -> State
-    ensures { λ r. ⌜ (r .ahead ≡ ahead) × (r .last ≡ n .spot) × ((text : List ℕ) (I : List ℕ) (S : List ℕ) (O : List ℕ) (A : List ℕ) → out (n .spot) text r I S O A ≡ pass n ahead (world text s I S O A)) ⌝ }
+    ensures { λ r. ⌜ (r .ahead ≡ ahead) × (r .last ≡ spotNext n) × ((text : List ℕ) (I : List ℕ) (S : List ℕ) (O : List ℕ) (A : List ℕ) → out (spotNext n) text r I S O A ≡ pass n ahead (world text s I S O A)) ⌝ }
 {
-    let spot = n.spot;
     let mut t = s;
     t.fault = n.fault;
-    t.at = spot.past;
+    t.at = n.past;
     t.ahead = ahead;
-    t.last = spot;
+    t.last = spot(n);
     t
 }
 
@@ -120,8 +133,7 @@ pub fn lookahead(text: &[u8], s: State) -> State
     if n.fault == fault::END {
         return s;
     }
-    let spot = n.spot;
-    past(s, n, spot)
+    past(s, n, spot(n))
 }
 
 // The token ahead is taken.

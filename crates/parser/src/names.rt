@@ -44,7 +44,7 @@ fn find_row(text: &[u8], statements: &[u32], name: &[u8], first: u32, past: u32)
 }
 
 // The item's statement that has the name which a token is.
-fn in_scope(text: &[u8], s: State, statements: &[u32], t: Spot) -> Row
+pub fn in_scope(text: &[u8], s: State, statements: &[u32], t: Spot) -> Row
     ensures { λ r. ⌜ ((I : List ℕ) (O : List ℕ) (A : List ℕ) → r ≡ R.inScope t (world (now (text .entry)) s I (now (statements .entry)) O A)) ⌝ }
 {
     let first = s.scope;

@@ -5,3 +5,4 @@ pub mod Told
 pub mod Words
 pub mod AttributeRows
 pub mod Closing
+pub mod Commas

@@ -5,18 +5,21 @@ use parser::lookahead;
 use parser::names;
 use parser::type_if_any;
 use rules::Operand;
+use rules::Row;
 use rules::Words;
 use rules::code;
 use rules::fault;
 use rules::kind;
 use tables::State;
 use tables::claim_operand;
+use tables::refuse;
 ghost use mathlib.Core.Path.{_≡_};
 ghost use mathlib.Core.List.{List};
 ghost use Prim.Native.Nat.{ℕ, _≤_};
 ghost use lib.ListN.{length};
 ghost use Rattle.rules.specs.Reading as R;
 ghost use Rattle.tables.specs.Stands.{stands, run};
+ghost use Rattle.reader.specs.Commas.{commaIf, operandsBehind};
 
 // An integer and a type, if any.
 fn constant(text: &[u8], s: State, operands: &mut [u32]) -> State
@@ -42,25 +45,30 @@ fn named(text: &[u8], s: State, statements: &[u32], operands: &mut [u32]) -> Sta
     requires { ⌜ length (now text) ≤ 65536 ⌝ }
     ensures { λ r. ⌜ ((I : List ℕ) (A : List ℕ) → stands (now (text .entry)) r I (now (statements .entry)) (now (operands .exit)) A ≡ run (stands (now (text .entry)) s I (now (statements .entry)) (now (operands .entry)) A) R.named) ⌝ }
 {
-    let v = names::value(text, s, statements);
-    claim_operand(
-        v.state,
-        operands,
-        Operand {
-            code: code::VALUE,
-            row: v.value,
-            width: 0,
-            bits: Words {
-                a: 0,
-                b: 0,
-                c: 0,
-                d: 0,
+    let t = expect(text, s, kind::VAL_NAME);
+    let spot = t.last;
+    match names::in_scope(text, t, statements, spot) {
+        Row::At(row) => claim_operand(
+            t,
+            operands,
+            Operand {
+                code: code::VALUE,
+                row,
+                width: 0,
+                bits: Words {
+                    a: 0,
+                    b: 0,
+                    c: 0,
+                    d: 0,
+                },
             },
-        },
-    )
+        ),
+        Row::Missing => refuse(t, fault::UNKNOWN, spot),
+    }
 }
 
-pub fn operand(text: &[u8], s: State, statements: &[u32], operands: &mut [u32]) -> State
+// A name or a constant, by the token ahead.
+fn named_or_constant(text: &[u8], s: State, statements: &[u32], operands: &mut [u32]) -> State
     requires { ⌜ length (now text) ≤ 65536 ⌝ }
     ensures { λ r. ⌜ ((I : List ℕ) (A : List ℕ) → stands (now (text .entry)) r I (now (statements .entry)) (now (operands .exit)) A ≡ run (stands (now (text .entry)) s I (now (statements .entry)) (now (operands .entry)) A) R.operand) ⌝ }
 {
@@ -71,7 +79,50 @@ pub fn operand(text: &[u8], s: State, statements: &[u32], operands: &mut [u32]) 
     constant(text, t, operands)
 }
 
-// n operands, each behind a comma; none further is looked for once something is at fault.
+// A comma, where one is wanted.
+fn comma_if(text: &[u8], s: State, wanted: bool) -> State
+    requires { ⌜ length (now text) ≤ 65536 ⌝ }
+    ensures { λ r. ⌜ ((I : List ℕ) (S : List ℕ) (O : List ℕ) (A : List ℕ) → stands (now (text .entry)) r I S O A ≡ run (stands (now (text .entry)) s I S O A) (commaIf wanted)) ⌝ }
+{
+    if wanted {
+        return expect(text, s, kind::COMMA);
+    }
+    s
+}
+
+// n operands with commas between them, and one before the first where `comma` says so; none further is looked for once something is at fault.
+// Every operand is read here, in one place, so that reading one is folded into the loop.
+fn operands_behind(
+    text: &[u8],
+    s: State,
+    statements: &[u32],
+    operands: &mut [u32],
+    n: u32,
+    comma: bool,
+) -> State
+    requires { ⌜ length (now text) ≤ 65536 ⌝ }
+    ensures { λ r. ⌜ ((I : List ℕ) (A : List ℕ) → stands (now (text .entry)) r I (now (statements .entry)) (now (operands .exit)) A ≡ run (stands (now (text .entry)) s I (now (statements .entry)) (now (operands .entry)) A) (operandsBehind comma n)) ⌝ }
+{
+    let mut t = s;
+    let mut left = n;
+    let mut behind = comma;
+    while 0 < left && t.fault == fault::NONE {
+        t = comma_if(text, t, behind);
+        t = named_or_constant(text, t, statements, operands);
+        behind = true;
+        left -= 1;
+    }
+    t
+}
+
+pub fn operand(text: &[u8], s: State, statements: &[u32], operands: &mut [u32]) -> State
+    requires { ⌜ length (now text) ≤ 65536 ⌝ }
+    ensures { λ r. ⌜ ((I : List ℕ) (A : List ℕ) → stands (now (text .entry)) r I (now (statements .entry)) (now (operands .exit)) A ≡ run (stands (now (text .entry)) s I (now (statements .entry)) (now (operands .entry)) A) R.operand) ⌝ }
+{
+    operands_behind(text, s, statements, operands, 1, false)
+}
+
+// n operands, each behind a comma.
 pub fn further_operands(
     text: &[u8],
     s: State,
@@ -82,14 +133,7 @@ pub fn further_operands(
     requires { ⌜ length (now text) ≤ 65536 ⌝ }
     ensures { λ r. ⌜ ((I : List ℕ) (A : List ℕ) → stands (now (text .entry)) r I (now (statements .entry)) (now (operands .exit)) A ≡ run (stands (now (text .entry)) s I (now (statements .entry)) (now (operands .entry)) A) (R.furtherOperands n)) ⌝ }
 {
-    let mut t = s;
-    let mut left = n;
-    while 0 < left && t.fault == fault::NONE {
-        t = expect(text, t, kind::COMMA);
-        t = operand(text, t, statements, operands);
-        left -= 1;
-    }
-    t
+    operands_behind(text, s, statements, operands, n, true)
 }
 
 // n operands with commas between them.
@@ -97,9 +141,5 @@ pub fn operands_of(text: &[u8], s: State, statements: &[u32], operands: &mut [u3
     requires { ⌜ length (now text) ≤ 65536 ⌝ }
     ensures { λ r. ⌜ ((I : List ℕ) (A : List ℕ) → stands (now (text .entry)) r I (now (statements .entry)) (now (operands .exit)) A ≡ run (stands (now (text .entry)) s I (now (statements .entry)) (now (operands .entry)) A) (R.operands n)) ⌝ }
 {
-    if n == 0 {
-        return s;
-    }
-    let t = operand(text, s, statements, operands);
-    further_operands(text, t, statements, operands, n - 1)
+    operands_behind(text, s, statements, operands, n, false)
 }

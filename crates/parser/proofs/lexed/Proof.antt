@@ -15,13 +15,13 @@ next-token-requires c κs = search needs
 enum-known-t : tie.Need-enum-known-t
 enum-known-t c = search needs
 
-cast-t9 : tie.Need-cast-t9
-cast-t9 c =
+cast-t10 : tie.Need-cast-t10
+cast-t10 c =
     let within = found-within _ _ (sym (c .before .before .before .before .next-token .ensures) ∙ c .before .before .t .given .1) in
     omega (arith, within .1 .0, within .1 .1, c .before .before .before .before .before .before .pre)
 
-cast-t10 : tie.Need-cast-t10
-cast-t10 c =
+cast-t11 : tie.Need-cast-t11
+cast-t11 c =
     let within = found-within _ _ (sym (c .before .before .before .before .before .next-token .ensures) ∙ c .before .before .before .t .given .1) in
     omega (arith, within .1 .1, c .before .before .before .before .before .before .before .pre)
 
@@ -34,11 +34,11 @@ last-byte-requires c κs = search needs
 enum-known-p : tie.Need-enum-known-p
 enum-known-p c = search needs
 
+cast-t12 : tie.Need-cast-t12
+cast-t12 c = omega (arith, refused-within _ _ (sym (c .before .before .before .next-token .ensures) ∙ c .before .p .given .1) .1, c .before .before .before .before .before .pre)
+
 cast-t13 : tie.Need-cast-t13
 cast-t13 c = omega (arith, refused-within _ _ (sym (c .before .before .before .next-token .ensures) ∙ c .before .p .given .1) .1, c .before .before .before .before .before .pre)
-
-cast-t14 : tie.Need-cast-t14
-cast-t14 c = omega (arith, refused-within _ _ (sym (c .before .before .before .next-token .ensures) ∙ c .before .p .given .1) .1, c .before .before .before .before .before .pre)
 
 returns : tie.Need-returns
 unfolding nextOf
@@ -60,13 +60,13 @@ lexed-spec =
     (tie.spec
     next-token-requires
     enum-known-t
-    cast-t9
     cast-t10
+    cast-t11
     enum-told
     last-byte-requires
     enum-known-p
+    cast-t12
     cast-t13
-    cast-t14
     returns
     returns-2
     returns-3)

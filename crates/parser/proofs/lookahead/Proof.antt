@@ -8,7 +8,7 @@ use Rattle.rules.specs.Reading as R
 use Rattle.tables.specs.Stands.{world, out, run}
 use Rattle.tables.proofs.Steps as step
 use Rattle.parser.specs.declared.Next.{Next}
-use Rattle.parser.specs.Next.{pass}
+use Rattle.parser.specs.Next.{spotNext, pass}
 use Rattle.parser.proofs.Nexts.{look-end, look-more}
 use Rattle.parser.proofs.lookahead.Statement.{statement}
 use Rattle.parser.proofs.lookahead.Tie as tie
@@ -33,6 +33,9 @@ returns-3 c I S O A =
     step.going _ _ I S O A _ w sound refl
     ∙ sym (step.goes _ _ I S O A _ sound ∙ look-end w (l .before .if2 .left) (ap (λ (n : Next). n .fault) (sym (l .lexed .ensures)) ∙ c .if3 .taken))
 
+spot-requires : tie.Need-spot-requires
+spot-requires c κs = search needs
+
 past-requires : tie.Need-past-requires
 past-requires c κs = search needs
 
@@ -43,11 +46,12 @@ returns-4 c I S O A =
     let sound = l .before .before .before .if1 .left in
     let a = l .before .before .before .before .before .before .args in
     let w = world (a .text .now) (a .s) I S O A in
-    ap (λ (b : Spot). out b (a .text .now) (c .past .result) I S O A) (c .past .ensures .0)
+    ap (λ (b : Spot). out b (a .text .now) (c .past .result) I S O A) (c .past .ensures .0 ∙ c .before .spot .ensures)
     ∙ c .past .ensures .2 _ I S O A
-    ∙ ap (λ (n : Next). pass n (n .spot) w) (l .lexed .ensures)
+    ∙ ap (λ (b : Spot). pass (l .lexed .result) b w) (c .before .spot .ensures)
+    ∙ ap (λ (n : Next). pass n (spotNext n) w) (l .lexed .ensures)
     ∙ sym (step.goes _ _ I S O A _ sound ∙ look-more w (l .before .if2 .left) (λ e. c .before .before .if3 .left (ap (λ (n : Next). n .fault) (l .lexed .ensures) ∙ e)))
 
 pub lookahead-spec : {M : Type 1} → statement M
 lookahead-spec =
-    tie.close (tie.spec returns returns-2 lexed-requires returns-3 past-requires returns-4)
+    tie.close (tie.spec returns returns-2 lexed-requires returns-3 spot-requires past-requires returns-4)

@@ -1,55 +1,19 @@
-use mathlib.Core.Path.{_≡_, refl, sym, ap, _∙_}
-use native.Mathlib.Omega.{arith}
-use borrow.Author.Tests.{eq-eqb, ne-eqb}
-use Rattle.rules.specs.Reading as R
-use Rattle.rules.specs.World as W
-use Rattle.tables.specs.Stands.{world, out, run}
-use Rattle.tables.proofs.Steps as step
-use Rattle.tables.proofs.Chains as chain
+-- `reader::operands::operand` meets its contract.
+-- Assumes nothing.
+use mathlib.Core.Path.{_≡_, _∙_}
 use borrow.Author.Needs.{needs}
+use Rattle.reader.proofs.Commas.{one-operand}
 use Rattle.reader.proofs.operands.operand.Statement.{statement}
 use Rattle.reader.proofs.operands.operand.Tie as tie
-use Rattle.reader.proofs.operands.operand.Reads as reads
-use Rattle.reader.proofs.operands.operand.Lts as lts
-use Rattle.parser.proofs.lookahead.Reads as lookahead-reads
-use Rattle.reader.proofs.operands.constant.Reads as constant-reads
-use Rattle.reader.proofs.operands.named.Reads as named-reads
 
-lookahead-requires : tie.Need-lookahead-requires
-lookahead-requires c κs = search needs
-
-named-requires : tie.Need-named-requires
-named-requires c κs = search needs
+operands-behind-requires : tie.Need-operands-behind-requires
+operands-behind-requires c κs = search needs
 
 same-length : tie.Need-same-length
 same-length c = search needs
 
 returns : tie.Need-returns
-unfolding R.operand
-returns c I A =
-    chain.then _ _ _ _ _ _ _ _ _ _ _ (c .before .before .before .before .before .before .lookahead .ensures I (c .before .before .before .before .before .before .before .before .before .before .args .statements .now) (c .before .before .before .before .before .before .before .before .before .before .args .operands .now) A)
-    (chain.yes-so _ _ _ _ (eq-eqb _ _ (c .before .before .before .before .if1 .taken)) (c .before .before .named .ensures I A))
-
-constant-requires : tie.Need-constant-requires
-constant-requires c κs = search needs
-
-same-length-2 : tie.Need-same-length-2
-same-length-2 c = search needs
-
-returns-2 : tie.Need-returns-2
-unfolding R.operand
-returns-2 c I A =
-    chain.then _ _ _ _ _ _ _ _ _ _ _ (c .before .before .before .before .before .before .lookahead .ensures I (c .before .before .before .before .before .before .before .before .before .before .args .statements .now) (c .before .before .before .before .before .before .before .before .before .before .args .operands .now) A)
-    (chain.not-so _ _ _ _ (ne-eqb _ _ (c .before .before .before .before .if1 .left)) (c .before .before .constant .ensures I _ A))
+returns c I A = c .before .before .operands-behind .ensures I A ∙ one-operand _
 
 pub operand-spec : {M : Type 1} → statement M
-operand-spec =
-    tie.close
-    (tie.spec
-    lookahead-requires
-    named-requires
-    same-length
-    returns
-    constant-requires
-    same-length-2
-    returns-2)
+operand-spec = tie.close (tie.spec operands-behind-requires same-length returns)
