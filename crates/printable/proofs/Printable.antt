@@ -24,7 +24,6 @@ use Rattle.listing.proofs.Steps.{refers-counted, ready-cleared}
 use Rattle.byrows.proofs.Names.{Assigns}
 use Rattle.byrows.proofs.Views.{assigning}
 use Rattle.byrows.proofs.Formed.{statements-owned, item-inside, item-whole, item-own, tables-sound, tables-room, listed-before, listed-between}
-use Rattle.printer.specs.Rows as rows
 use Rattle.printer.specs.Rows.{reached, rowsBefore, rowsBetween, itemText, itemsText}
 use Rattle.printer.specs.Contracts.{Prepared, Within, Own, Owned}
 use Rattle.printable.proofs.Spans.{text-short, closing-operands, closing-attributes, operands-few, attributes-few}
@@ -40,7 +39,6 @@ module _ (text I S O A : List ℕ) (c : Counts) (ok : wellFormed text I S O A c 
   within r roots a = all-map (Assigns (assigning S) (r .statements .first) (r .statements .past)) (Within (r .statements)) (λ j b. (b .low, b .high)) roots a
 
   item-owns : (k : ℕ) → k < c .items → Own S O s (itemAt I k)
-  unfolding rows.firstRoots rows.secondRoots firstRoots secondRoots
   item-owns k h =
       let r : Item = itemAt I k in
       let in-it = item-inside text I S O A c ok k h in
@@ -75,7 +73,7 @@ module _ (text I S O A : List ℕ) (c : Counts) (ok : wellFormed text I S O A c 
 
   -- ---- the text of the items
   item-text : (k : ℕ) → k < c .items → itemText text S O A s (itemAt I k) ≡ printed (itemOf text I S O A k) []
-  unfolding itemText rowsBefore rowsBetween reached rows.firstRoots rows.secondRoots firstRoots secondRoots printed itemOf asItem
+  unfolding itemText rowsBefore rowsBetween reached printed itemOf asItem
   item-text k h =
       let x : syntax.Item = itemOf text I S O A k in
       let closing : syntax.Closing = asClosing text S O A (itemAt I k) in

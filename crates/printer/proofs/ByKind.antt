@@ -17,7 +17,7 @@ use Rattle.listing.specs.References.{named}
 use Rattle.pieces.specs.Bounds.{Few}
 use Rattle.pieces.proofs.Bounds.{either}
 use Rattle.lines.proofs.Lines.{infer-short, result-short, cand-short}
-use Rattle.printer.specs.Rows.{firstRoots, secondRoots}
+use Rattle.listing.specs.Roots.{firstRoots, secondRoots}
 
 module _ (O : List ℕ) (r : Item) where
   pub replacement-roots : r .kind ≡ inferResult → firstRoots O r ≡ r .infer ∷ []

@@ -25,7 +25,8 @@ use Rattle.listing.specs.Work.{marksOf}
 use Rattle.listing.proofs.Members.{all-map, all-append}
 use Rattle.listing.proofs.Steps.{ready-cleared}
 use Rattle.pieces.proofs.Chains.{Chain, chain-none, chain-whole, chain-as, chain-more, chain-done}
-use Rattle.printer.specs.Rows.{firstRoots, secondRoots, reached, linesOf, rowsBefore, rowsBetween, itemText, itemsText}
+use Rattle.listing.specs.Roots.{firstRoots, secondRoots}
+use Rattle.printer.specs.Rows.{reached, linesOf, rowsBefore, rowsBetween, itemText, itemsText}
 use Rattle.printer.specs.Contracts.{Prepared, Within, Own, Owned, RowsPrinted, Cleared, ItemPrinted, ItemsPrinted, Measured}
 use Rattle.printer.proofs.Reaching.{reached-append, reached-within, reached-few}
 use Rattle.printer.proofs.Texts.{linesOf-short, laid-joined}

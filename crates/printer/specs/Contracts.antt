@@ -14,7 +14,8 @@ use Rattle.listing.specs.Listing.{none, marked}
 use Rattle.listing.specs.References.{All, references, Sound}
 use Rattle.listing.specs.Work.{hasMark, marksOf, Ready}
 use Rattle.pieces.specs.Bounds.{Few}
-use Rattle.printer.specs.Rows.{firstRoots, secondRoots, reached, linesOf, itemText, itemsText}
+use Rattle.listing.specs.Roots.{firstRoots, secondRoots}
+use Rattle.printer.specs.Rows.{reached, linesOf, itemText, itemsText}
 
 -- the text is short, the spans of s counted statement rows are, and the work area is ready for a walk along them
 pub record Prepared (text S O : List ℕ) (s : ℕ) (w : List ℕ) : Type 0 where

@@ -1,27 +1,15 @@
 -- What items print as, by row numbers: which statement rows each lists, and their lines around its closing lines.
 -- Assumes nothing.
 use Prim.Native.Nat.{ℕ}
-use mathlib.Core.Bool.{cond}
-use mathlib.Core.List.{List, [], _∷_, map}
-use lib.Dec.{eqb}
+use mathlib.Core.List.{List, [], map}
 use Rattle.rules.specs.declared.Item.{Item}
 use Rattle.rules.specs.Out.{joined}
-use Rattle.rules.specs.Rows.{itemAt, inferResult, candidate, leftHandSide}
+use Rattle.rules.specs.Rows.{itemAt}
 use Rattle.rules.specs.View.{each, statementOf, asClosing}
 use Rattle.rules.specs.Printing.{lines, laid}
 use Rattle.listing.specs.Listing.{Marks, none, marked, listing}
-use Rattle.listing.specs.References.{named, refers}
-
--- the roots of an item's first closing line, and the result's where it stands behind an infer
-unfoldable pub firstRoots : List ℕ → Item → List ℕ
-firstRoots O r =
-    cond (eqb (r .kind) inferResult) (r .infer ∷ [])
-    (cond (eqb (r .kind) candidate) (named O (r .operands .first) 2)
-    (cond (eqb (r .kind) leftHandSide) (r .infer ∷ [])
-    (named O (r .operands .first) 1)))
-
-unfoldable pub secondRoots : List ℕ → Item → List ℕ
-secondRoots O r = cond (eqb (r .kind) inferResult) (named O (r .operands .first) 1) []
+use Rattle.listing.specs.References.{refers}
+use Rattle.listing.specs.Roots.{firstRoots, secondRoots}
 
 -- what roots list of s counted statement rows, where those with a mark are listed already
 unfoldable pub reached : List ℕ → List ℕ → ℕ → Marks → List ℕ → List ℕ

@@ -10,7 +10,7 @@ use rules::code;
 ghost use mathlib.Core.List.{[], _∷_};
 ghost use Prim.Native.Nat.{_≤_, _<_};
 ghost use Rattle.listing.specs.References.{All, named};
-ghost use Rattle.printer.specs.Rows.{firstRoots, secondRoots};
+ghost use Rattle.listing.specs.Roots.{firstRoots, secondRoots};
 ghost use Rattle.printer.specs.Contracts.{Prepared, RowsPrinted};
 
 // Writes the lines of what a statement row reaches.
