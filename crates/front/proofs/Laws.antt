@@ -16,13 +16,12 @@ use Rattle.rules.specs.View.{itemsOf}
 use Rattle.rules.specs.Printing.{printedAll}
 use Rattle.rules.specs.WellFormed.{counts, wellFormed}
 use Rattle.rules.specs.Answers.{Lent, lent, Outcome, accepted, refusal, reading, answerOf, Reads}
-use Rattle.rules.specs.Prints.{wordsNeeded, fitting, printing, printAnswer, outputAfter, Prints}
-use Rattle.rules.specs.Prints as prints
+use Rattle.rules.specs.Prints.{wordsNeeded, printOf, fitting, printing, printAnswer, outputAfter, Prints}
 use Rattle.reading.proofs.Progress.{accepted-bounds}
 use Rattle.simulation.proofs.Left.{left-say}
 use Rattle.accepted.proofs.Formed.{left-formed}
 use Rattle.accepted.proofs.Whole.{accepted-short}
-use Rattle.front.specs.Told.{room, printOf, answerTold, outputTold, Tells}
+use Rattle.front.specs.Told.{room, printTold, answerTold, outputTold, Tells}
 
 -- as many words as a program lends
 pub record Roomy (I S O A work : List ℕ) : Type 0 where
@@ -49,8 +48,8 @@ module _ (e : Entry) (text I S O A work output : List ℕ) (roomy : Roomy I S O 
 
     printed-whole : (i s o a : ℕ) (t : Tables) → wellFormed text I′ S′ O′ A′ (counts i s o a) ≡ true → wordsNeeded (counts i s o a) ≤ length work
         → itemsOf text I′ S′ O′ A′ i ≡ itemsOf text (t .items .words) (t .statements .words) (t .operands .words) (t .attributes .words) (t .items .count)
-        → printing text I′ S′ O′ A′ (counts i s o a) (length work) (length output) ≡ printOf text t (length output)
-    unfolding printing prints.printOf printOf
+        → printing text I′ S′ O′ A′ (counts i s o a) (length work) (length output) ≡ printTold text t (length output)
+    unfolding printing printOf printTold
     printed-whole i s o a t formed enough says =
         rw (formed, le-ltb (length work) (wordsNeeded (counts i s o a)) enough, says) refl
 

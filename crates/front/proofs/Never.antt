@@ -17,7 +17,7 @@ use Rattle.reading.proofs.Fuel.{refused-number}
 use Rattle.reading.proofs.Progress.{enough-rows}
 use Rattle.accepted.proofs.Whole.{accepted-short}
 use Rattle.grammar.proofs.PrintedLength.{printed-length}
-use Rattle.front.specs.Told.{room, printOf, answerTold, Tells}
+use Rattle.front.specs.Told.{room, printTold, answerTold, Tells}
 
 -- The rows that a program lends are enough for any text.
 pub room-enough : (e : Entry) (text : List ℕ) (p : ℕ) → reading e text room ≡ refusal 7 p → ⊥
@@ -31,7 +31,7 @@ fits s bytes n p h = rw (le-ltb bytes (length s) h) (λ e. let z : _≡_ {A = �
 
 module _ (e : Entry) (text output : List ℕ) (enough : 131072 ≤ length output) (n p : ℕ) where
   by-outcome : (o : Outcome) → reading e text room ≡ o → answerTold text o (length output) ≡ answer.Refused n p → (1 ≤ n) × (n ≤ 6)
-  unfolding answerTold printOf
+  unfolding answerTold printTold
   by-outcome (accepted t) h q =
       let long = printed-length e text room t h in
       let short = accepted-short e text room t h in

@@ -19,15 +19,15 @@ abbrev pub room : Lent
 room = record { items = 294912; statements = 218460; operands = 458752; attributes = 240306 }
 
 -- the print of the items that tables say, into an output of so many bytes
-unfoldable pub printOf : List ℕ → Tables → ℕ → Print
-printOf text t bytes = fitting (printedAll (itemsOf text (t .items .words) (t .statements .words) (t .operands .words) (t .attributes .words) (t .items .count))) bytes
+unfoldable pub printTold : List ℕ → Tables → ℕ → Print
+printTold text t bytes = fitting (printedAll (itemsOf text (t .items .words) (t .statements .words) (t .operands .words) (t .attributes .words) (t .items .count))) bytes
 
 unfoldable pub answerTold : List ℕ → Outcome → ℕ → Answer
-answerTold text (accepted t) bytes = printAnswer (printOf text t bytes)
+answerTold text (accepted t) bytes = printAnswer (printTold text t bytes)
 answerTold text (refusal n p) bytes = answer.Refused n p
 
 unfoldable pub outputTold : List ℕ → Outcome → List ℕ → List ℕ
-outputTold text (accepted t) output = outputAfter (printOf text t (length output)) output
+outputTold text (accepted t) output = outputAfter (printTold text t (length output)) output
 outputTold text (refusal n p) output = output
 
 -- the answer of what a text is read as, and the output as it is left
