@@ -1,21 +1,18 @@
 -- What the code's table says of the instructions.
 -- Assumes nothing.
-use mathlib.Core.Path.{_≡_, refl, sym, ap, subst⁻¹, _∙_}
-use mathlib.Core.Bool.{Bool, true, false, _&&_}
+use mathlib.Core.Path.{_≡_, refl, ap, subst⁻¹}
+use mathlib.Core.Bool.{Bool, true, _&&_}
 use mathlib.Core.List.{List, [], _∷_}
-use Prim.Native.Nat.{ℕ, _+_, _-_, _*_, _≤_, _<_}
-use native.Mathlib.Omega.{arith}
+use Prim.Native.Nat.{ℕ, _+_, _≤_, _<_}
 use lib.Dec.{eqb, leb}
-use lib.ListN.{length, getD, drop, take, length-drop, List·getD-eq-default}
+use lib.ListN.{length, getD, List·getD-eq-default}
 use borrow.Author.Tests.{eqb-true, leb-true}
 use Rattle.rules.specs.Bytes.{part, same}
-use Rattle.rules.specs.Instructions.{Instruction, _takes_, instructions, names, placeOf, arityOf, instructionName}
+use Rattle.rules.specs.Instructions.{Instruction, _takes_, instructions, arityOf, instructionName}
 use Rattle.laws.proofs.Tests.{and-left, and-right}
 use Rattle.laws.proofs.Every.{every, every-at}
-use Rattle.laws.proofs.Places.{same-eq, place-here, place-more}
-use Rattle.laws.proofs.Names.{name-of}
-use Rattle.laws.proofs.Runs.{same-long}
-use Rattle.instructions.specs.Table.{letters, places, ahead}
+use Rattle.laws.proofs.Places.{same-eq}
+use Rattle.instructions.specs.Table.{letters, places}
 
 -- name k by the places where it starts and ends
 abbrev pub nameAt : List ℕ → ℕ → List ℕ
@@ -86,18 +83,3 @@ module _ (k : ℕ) (h : 59 ≤ k) where
   pub name-past : instructionName k ≡ []
   unfolding instructionName
   name-past = ap (λ (i : Instruction). i .name) (List·getD-eq-default instructions ("" takes 0) h)
-
-module _ (w : List ℕ) (k : ℕ) (h : k < 59) where
-  name-at : getD (names instructions) k [] ≡ instructionName k
-  unfolding instructionName
-  name-at = name-of instructions k
-
-  pub here : same w (instructionName k) ≡ true → ahead w k ≡ 0
-  here e = place-here w (names instructions) k h (ap (same w) name-at ∙ e)
-
-  pub more : same w (instructionName k) ≡ false → ahead w k ≡ 1 + ahead w (k + 1)
-  more e = place-more w (names instructions) k h (ap (same w) name-at ∙ e)
-
-  -- a name of another length is another name
-  pub passed : (length (instructionName k) ≡ length w → ⊥) → ahead w k ≡ 1 + ahead w (k + 1)
-  passed ne = more (same-long w (instructionName k) (λ e. ne (sym e)))

@@ -2,8 +2,8 @@
 -- Assumes nothing.
 use Prim.Native.Nat.{ℕ, _+_}
 use mathlib.Core.List.{List, [], _∷_}
-use lib.ListN.{length, drop}
-use Rattle.rules.specs.Instructions.{instructions, names, placeOf}
+use lib.ListN.{length}
+use Rattle.rules.specs.Instructions.{instructions, names}
 use Rattle.rules.specs.Out.{joined}
 
 unfoldable pub letters : List ℕ
@@ -16,7 +16,3 @@ placesFrom at (w ∷ l) = at ∷ placesFrom (at + length w) l
 
 unfoldable pub places : List ℕ
 places = placesFrom 0 (names instructions)
-
--- the place of a word among the names from k on
-abbrev pub ahead : List ℕ → ℕ → ℕ
-ahead w k = placeOf w (drop k (names instructions))

@@ -1,46 +1,19 @@
-// The words that a text can hold: the instructions, by constant tables of their names and arities, and the other keywords.
-// How a word is looked for shows nowhere outside.
+// The words that a text can hold: the instructions, whose names and arities are constant tables, and the other keywords.
+// A word is looked for by a comparison with each in turn; how it is looked for shows nowhere outside.
+mod search;
 mod table;
 
 use rules::keyword;
+pub use search::instruction;
 use table::ARITIES;
 use table::NAMES;
 use table::STARTS;
 ghost use mathlib.Core.Path.{_≡_};
-ghost use Prim.Native.Nat.{_+_, _≤_, _<_};
+ghost use Prim.Native.Nat.{_+_, _<_};
 ghost use lib.ListN.{length, drop};
 ghost use Rattle.rules.specs.Out.{Wrote};
-ghost use Rattle.rules.specs.Instructions.{instructionOf, arityOf, instructionName, placeOf, keywords, keywordOf};
-ghost use Rattle.instructions.specs.Table.{letters, places, ahead};
-
-// The instruction that w names, by its place in the table; 59 where w names none.
-pub fn instruction(w: &[u8]) -> usize
-    ensures { λ r. ⌜ r ≡ instructionOf (now (w .entry)) ⌝ }
-{
-    let starts = STARTS;
-    let names = NAMES;
-    let mut k = as_long(&starts, w, 0);
-    while k < 59 {
-        if scan::same(w, name(&names, &starts, k)) {
-            return k;
-        }
-        k = as_long(&starts, w, k + 1);
-    }
-    k
-}
-
-// The next name, from k on, that is as long as w: those before it are passed by.
-fn as_long(starts: &[u16], w: &[u8], k: usize) -> usize
-    requires { ⌜ now starts ≡ places ⌝ }
-    requires { ⌜ k ≤ 59 ⌝ }
-    ensures { λ r. ⌜ (k ≤ r) × (r ≤ 59) × (k + ahead (now (w .entry)) k ≡ r + ahead (now (w .entry)) r) ⌝ }
-{
-    let mut i = k;
-    while i < 59 && name_len(starts, i) != w.len() {
-        i += 1;
-    }
-    i
-}
+ghost use Rattle.rules.specs.Instructions.{arityOf, instructionName, placeOf, keywords, keywordOf};
+ghost use Rattle.instructions.specs.Table.{letters, places};
 
 // How long name k of the table is.
 fn name_len(starts: &[u16], k: usize) -> usize

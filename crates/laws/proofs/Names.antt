@@ -19,7 +19,7 @@ isWord [] = false
 isWord (b ∷ w) = letter b && (eqb (count nameByte w) (length w) && not (same (b ∷ w) (bytes "knownBits")))
 
 -- the names of a list of instructions, one by one
-pub name-of : (l : List Instruction) (k : ℕ) → getD (names l) k [] ≡ getD l k ("" takes 0) .name
+name-of : (l : List Instruction) (k : ℕ) → getD (names l) k [] ≡ getD l k ("" takes 0) .name
 name-of [] k = refl
 name-of (i ∷ l) zero = refl
 name-of (i ∷ l) (suc k) = name-of l k

@@ -1,14 +1,12 @@
--- Laws of `placeOf`, the place of a word in a list of words: as a loop over the list goes on, as a chain of comparisons goes on, and what stands there.
+-- Laws of `placeOf`, the place of a word in a list of words: as a chain of comparisons goes on, and what stands there.
 -- Assumes nothing.
 use mathlib.Core.Path.{_≡_, refl, sym, ap, _∙_}
 use mathlib.Core.Bool.{Bool, true, false, cond, false≢true}
 use mathlib.Core.List.{List, [], _∷_}
 use Prim.Native.Nat.{ℕ, suc, _+_, _<_}
 use native.Mathlib.Nat.{zero-add, add-zero, suc-add, add-suc, le-of-suc-le-suc, not-suc-le-zero}
-use native.Mathlib.Numerals.{add-one, one-add}
 use lib.Dec.{eqb}
-use lib.ListN.{length, getD, drop}
-use lib.Seq.{drop-cons}
+use lib.ListN.{length, getD}
 use borrow.Author.Tests.{eqb-true}
 use Rattle.rules.specs.Bytes.{same}
 use Rattle.rules.specs.Instructions.{placeOf}
@@ -23,14 +21,6 @@ same-eq (x ∷ a) [] e = absurd (false≢true e)
 same-eq (x ∷ a) (y ∷ b) e =
     ap (λ (h : ℕ). h ∷ a) (eqb-true x y (and-left (eqb x y) (same a b) e))
     ∙ ap (λ (l : List ℕ). y ∷ l) (same-eq a b (and-right (eqb x y) (same a b) e))
-
--- a loop over a list of words stands at i
-module _ (w : List ℕ) (l : List (List ℕ)) (i : ℕ) where
-  pub place-here : i < length l → same w (getD l i []) ≡ true → placeOf w (drop i l) ≡ 0
-  place-here h e = rw (drop-cons l i [], e)
-
-  pub place-more : i < length l → same w (getD l i []) ≡ false → placeOf w (drop i l) ≡ 1 + placeOf w (drop (i + 1) l)
-  place-more h e = rw (add-one, one-add, drop-cons l i [], e)
 
 -- a chain of comparisons has passed n words of a list, and these are left
 pub record Past (w : List ℕ) (all : List (List ℕ)) (n : ℕ) (rest : List (List ℕ)) : Type 0 where

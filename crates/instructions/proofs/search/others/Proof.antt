@@ -1,0 +1,66 @@
+-- A chain of comparisons: `past-n` says that the first n names of the family are not the word.
+-- Assumes nothing.
+use mathlib.Core.Path.{refl, sym, ap}
+use Prim.Native.Nat.{ℕ, _+_}
+use lib.ListN.{drop}
+use Rattle.rules.specs.Instructions.{instructions, names}
+use Rattle.laws.proofs.Places.{Past, none-past, one-past, found}
+use Rattle.instructions.proofs.search.others.Statement.{statement}
+use Rattle.instructions.proofs.search.others.Tie as tie
+use Rattle.instructions.proofs.search.others.Reads as reads
+use Rattle.instructions.proofs.search.others.Lts as lts
+use Rattle.scan.proofs.same.Reads as same-reads
+
+slice-aggregate-same : tie.Need-slice-aggregate-same
+slice-aggregate-same c = refl
+
+same-requires : tie.Need-same-requires
+same-requires c κs = tt
+
+returns : tie.Need-returns
+returns c = ap (λ (n : ℕ). 56 + n) (found (none-past {all = drop 56 (names instructions)}) (c .before .same .ensures) (c .if1 .taken))
+
+past-1 : (c : lts.Else1 (same-reads.Asked, same-reads.Learnt) reads.Pre reads.Post) → Past (c .before .before .before .before .args .w .now) (drop 56 (names instructions)) 1 (drop 57 (names instructions))
+past-1 c = one-past none-past (c .before .same .ensures) (c .if1 .left)
+
+slice-aggregate-same-2 : tie.Need-slice-aggregate-same-2
+slice-aggregate-same-2 c = refl
+
+same-requires-2 : tie.Need-same-requires-2
+same-requires-2 c κs = tt
+
+returns-2 : tie.Need-returns-2
+returns-2 c = ap (λ (n : ℕ). 56 + n) (found (past-1 (c .before .before .before)) (c .before .same2 .ensures) (c .if2 .taken))
+
+past-2 : (c : lts.Else2 (same-reads.Asked, same-reads.Learnt) reads.Pre reads.Post) → Past (c .before .before .before .before .before .before .before .args .w .now) (drop 56 (names instructions)) 2 (drop 58 (names instructions))
+past-2 c = one-past (past-1 (c .before .before .before)) (c .before .same2 .ensures) (c .if2 .left)
+
+slice-aggregate-same-3 : tie.Need-slice-aggregate-same-3
+slice-aggregate-same-3 c = refl
+
+same-requires-3 : tie.Need-same-requires-3
+same-requires-3 c κs = tt
+
+returns-3 : tie.Need-returns-3
+returns-3 c = ap (λ (n : ℕ). 56 + n) (found (past-2 (c .before .before .before)) (c .before .same3 .ensures) (c .if3 .taken))
+
+past-3 : (c : lts.Else3 (same-reads.Asked, same-reads.Learnt) reads.Pre reads.Post) → Past (c .before .before .before .before .before .before .before .before .before .before .args .w .now) (drop 56 (names instructions)) 3 (drop 59 (names instructions))
+past-3 c = one-past (past-2 (c .before .before .before)) (c .before .same3 .ensures) (c .if3 .left)
+
+returns-4 : tie.Need-returns-4
+returns-4 c = ap (λ (n : ℕ). 56 + n) (sym (past-3 c .place))
+
+pub others-spec : {M : Type 1} → statement M
+others-spec =
+    tie.close
+    (tie.spec
+    slice-aggregate-same
+    same-requires
+    returns
+    slice-aggregate-same-2
+    same-requires-2
+    returns-2
+    slice-aggregate-same-3
+    same-requires-3
+    returns-3
+    returns-4)
