@@ -5,4 +5,5 @@ pub mod Counted
 pub mod Arities
 pub mod Spans
 pub mod Inside
+pub mod Marked
 pub mod Examples

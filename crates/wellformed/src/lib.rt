@@ -6,6 +6,7 @@ mod letters;
 mod operand;
 mod owned;
 mod row;
+mod seen;
 pub mod sort;
 mod statement;
 mod table;

@@ -8,6 +8,7 @@ use crate::operand::operands_ok;
 use crate::operand::refers_to_block;
 use crate::operand::width_fits;
 use crate::row::statement_at;
+use crate::seen::slot;
 use crate::sort::has_block;
 use crate::sort::inside;
 use crate::sort::is_assignment;
@@ -16,11 +17,17 @@ use crate::sort::is_instruction;
 use rules::Span;
 use rules::Statement;
 use rules::code;
+use tables::letters;
 use tables::number_at;
 ghost use mathlib.Core.Path.{_≡_};
-ghost use Prim.Native.Nat.{_<_};
+ghost use mathlib.Core.Bool.{true};
+ghost use Prim.Native.Nat.{_≤_, _<_};
+ghost use lib.ListN.{length};
 ghost use Rattle.rules.specs.Instructions.{arityOf};
-ghost use Rattle.rules.specs.WellFormed.{nameOk, widthOk, numberOk, blockOk, arity as arityIn, operandsFit, attributesFit, statementOk, statementsOk};
+ghost use Rattle.rules.specs.WellFormed.{nameOk, widthOk, numberOk, blockOk, arity as arityIn, operandsFit, attributesFit, newName, statementOk, statementsOk};
+
+// How many statements are many.
+const MANY: u32 = 64;
 
 // How many operands each instruction takes, by its place.
 const ARITIES: [u8; 59] = [
@@ -93,8 +100,9 @@ fn takes(k: usize) -> u8
     ARITIES[k]
 }
 
-// Whether an assignment has a name that is new in its item, a condition none.
-fn name_ok(text: &[u8], statements: &[u32], first: u32, i: u32, r: Statement) -> bool
+// Whether an assignment has a name that is new in its item, a condition none; a `fresh` name is known to be new.
+fn name_ok(text: &[u8], statements: &[u32], first: u32, i: u32, fresh: bool, r: Statement) -> bool
+    requires { ⌜ (fresh ≡ true → newName (now text) (now statements) first i ≡ true) ⌝ }
     ensures { λ x. ⌜ x ≡ nameOk (now (text .entry)) (now (statements .entry)) first i r ⌝ }
 {
     let name = r.name;
@@ -103,6 +111,9 @@ fn name_ok(text: &[u8], statements: &[u32], first: u32, i: u32, r: Statement) ->
     }
     if !name_in(text, name) {
         return false;
+    }
+    if fresh {
+        return true;
     }
     new_name(text, statements, first, i)
 }
@@ -176,7 +187,7 @@ fn attributes_fit(text: &[u8], attributes: &[u32], r: Statement) -> bool
     attributes_ok(text, attributes, code::KNOWN_BITS, code::RANGE, s)
 }
 
-// Whether statement row i is well formed.
+// Whether statement row i is well formed; a `fresh` name is known to be new.
 fn statement_ok(
     text: &[u8],
     statements: &[u32],
@@ -184,14 +195,16 @@ fn statement_ok(
     attributes: &[u32],
     first: u32,
     i: u32,
+    fresh: bool,
     r: Statement,
 ) -> bool
+    requires { ⌜ (fresh ≡ true → newName (now text) (now statements) first i ≡ true) ⌝ }
     ensures { λ x. ⌜ x ≡ statementOk (now (text .entry)) (now (statements .entry)) (now (operands .entry)) (now (attributes .entry)) first i r ⌝ }
 {
     if !inside(1, code::BLOCKPC, r.code) {
         return false;
     }
-    if !name_ok(text, statements, first, i, r) {
+    if !name_ok(text, statements, first, i, fresh, r) {
         return false;
     }
     if !width_ok(r) {
@@ -209,6 +222,50 @@ fn statement_ok(
     attributes_fit(text, attributes, r)
 }
 
+// Whether the statement rows of an item are well formed; once a row is tested, its name's slot has a mark.
+fn statements_in(
+    text: &[u8],
+    statements: &[u32],
+    operands: &[u32],
+    attributes: &[u32],
+    s: Span,
+    seen: &mut [u8],
+) -> bool
+    requires { ⌜ 1 ≤ length (now seen) ⌝ }
+    ensures { λ r. ⌜ r ≡ statementsOk (now (text .entry)) (now (statements .entry)) (now (operands .entry)) (now (attributes .entry)) s ⌝ }
+{
+    let first = s.first;
+    let end = s.past;
+    let mut i = first;
+    while i < end {
+        let r = statement_at(statements, i);
+        let k = slot(letters(text, r.name.first, r.name.past), seen.len());
+        let fresh = seen[k] == 0;
+        if !statement_ok(text, statements, operands, attributes, first, i, fresh, r) {
+            return false;
+        }
+        seen[k] = 1;
+        i += 1;
+    }
+    true
+}
+
+// The same with one mark, for an item of few statements: each name but the first is searched for.
+fn few_ok(text: &[u8], statements: &[u32], operands: &[u32], attributes: &[u32], s: Span) -> bool
+    ensures { λ r. ⌜ r ≡ statementsOk (now (text .entry)) (now (statements .entry)) (now (operands .entry)) (now (attributes .entry)) s ⌝ }
+{
+    let mut seen = [0u8; 1];
+    statements_in(text, statements, operands, attributes, s, &mut seen)
+}
+
+// The same with 65,536 marks, for an item of many.
+fn many_ok(text: &[u8], statements: &[u32], operands: &[u32], attributes: &[u32], s: Span) -> bool
+    ensures { λ r. ⌜ r ≡ statementsOk (now (text .entry)) (now (statements .entry)) (now (operands .entry)) (now (attributes .entry)) s ⌝ }
+{
+    let mut seen = [0u8; 65536];
+    statements_in(text, statements, operands, attributes, s, &mut seen)
+}
+
 // Whether the statement rows of an item are well formed.
 pub fn statements_ok(
     text: &[u8],
@@ -219,22 +276,8 @@ pub fn statements_ok(
 ) -> bool
     ensures { λ r. ⌜ r ≡ statementsOk (now (text .entry)) (now (statements .entry)) (now (operands .entry)) (now (attributes .entry)) s ⌝ }
 {
-    let first = s.first;
-    let end = s.past;
-    let mut i = first;
-    while i < end {
-        if !statement_ok(
-            text,
-            statements,
-            operands,
-            attributes,
-            first,
-            i,
-            statement_at(statements, i),
-        ) {
-            return false;
-        }
-        i += 1;
+    if long(s) < MANY {
+        return few_ok(text, statements, operands, attributes, s);
     }
-    true
+    many_ok(text, statements, operands, attributes, s)
 }
