@@ -10,7 +10,7 @@ use Rattle.rules.specs.declared.Span.{Span}
 use Rattle.rules.specs.Answers.{Outcome, Leaves, Ends, Reads, Reports}
 use Rattle.rules.specs.Prints.{Prints, PrintReports, namePart, nameReport}
 use Rattle.rules.specs.WellFormed.{Counts}
-use Rattle.peldarox.specs.Parts.{IsPart}
+use Rattle.prints.specs.Parts.{IsPart}
 
 -- two contents of each table, one and the same
 pub record Same (I S O A I′ S′ O′ A′ : List ℕ) : Type 0 where

@@ -1,9 +1,9 @@
 // The public calls for C, as include/peldarox.h has them: a slice is a pointer and a count of elements, a report is six words of 64 bits.
-use crate::naming::name_part;
-use crate::print;
 use crate::read_left_hand_sides;
 use crate::read_replacements;
 use crate::read_right_hand_sides;
+use prints::name_part;
+use prints::print;
 use rules::Answer;
 use rules::Entry;
 ghost use mathlib.Core.Path.{_≡_};

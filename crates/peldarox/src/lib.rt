@@ -1,11 +1,9 @@
 // The public calls. Nothing is asked of a caller: whatever is lent, each call ends with an answer of document 01's table, and its contract determines that
 // answer and every lent word. exports.rt has the same calls for C.
 pub mod exports;
-mod naming;
-mod printing;
 
-pub use naming::name;
-pub use printing::print;
+pub use prints::name;
+pub use prints::print;
 use reader::items::items_of;
 use rules::Answer;
 use rules::Checked;

@@ -3,7 +3,7 @@
 use mathlib.Core.Path.{ap}
 use native.Mathlib.Omega.{arith}
 use Rattle.rules.specs.Prints.{nameReport}
-use Rattle.peldarox.proofs.Names.{part-lies}
+use Rattle.prints.proofs.Names.{part-lies}
 use borrow.Author.Needs.{needs}
 use Rattle.peldarox.proofs.exports.peldarox_name.Statement.{statement}
 use Rattle.peldarox.proofs.exports.peldarox_name.Tie as tie

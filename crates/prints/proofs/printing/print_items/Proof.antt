@@ -1,12 +1,12 @@
--- `peldarox::printing::print_items` meets its contract.
+-- `prints::printing::print_items` meets its contract.
 -- Assumes nothing.
 use mathlib.Core.Path.{_≡_, refl, ap, _∙_}
 use native.Mathlib.Omega.{arith}
 use lib.ListN.{length}
-use Rattle.peldarox.proofs.Prints as prints
+use Rattle.prints.proofs.Prints as prints
 use borrow.Author.Needs.{needs}
-use Rattle.peldarox.proofs.printing.print_items.Statement.{statement}
-use Rattle.peldarox.proofs.printing.print_items.Tie as tie
+use Rattle.prints.proofs.printing.print_items.Statement.{statement}
+use Rattle.prints.proofs.printing.print_items.Tie as tie
 
 clear-requires : tie.Need-clear-requires
 clear-requires c κs = search needs

@@ -1,13 +1,13 @@
--- `peldarox::printing::print` meets its contract.
+-- `prints::printing::print` meets its contract.
 -- Assumes nothing.
 use native.Mathlib.Omega.{arith}
 use Rattle.laws.proofs.Tests.{said-not, said-not-not}
 use Rattle.rules.specs.Prints.{wordsNeeded}
 use Rattle.printable.proofs.Printable.{counts-small, items-owned, tables-prepared}
-use Rattle.peldarox.proofs.Prints as prints
+use Rattle.prints.proofs.Prints as prints
 use borrow.Author.Needs.{needs}
-use Rattle.peldarox.proofs.printing.print.Statement.{statement}
-use Rattle.peldarox.proofs.printing.print.Tie as tie
+use Rattle.prints.proofs.printing.print.Statement.{statement}
+use Rattle.prints.proofs.printing.print.Tie as tie
 
 well-formed-requires : tie.Need-well-formed-requires
 well-formed-requires c κs = search needs

@@ -1,13 +1,13 @@
--- `peldarox::naming::name` meets its contract.
+-- `prints::naming::name` meets its contract.
 -- Assumes nothing.
 use mathlib.Core.Path.{refl, ap}
 use native.Mathlib.Omega.{arith}
 use Rattle.rules.specs.declared.Span.{Span}
 use Rattle.rules.specs.Rows.{lettersOf}
-use Rattle.peldarox.proofs.Names.{part-lies}
+use Rattle.prints.proofs.Names.{part-lies}
 use borrow.Author.Needs.{needs}
-use Rattle.peldarox.proofs.naming.name.Statement.{statement}
-use Rattle.peldarox.proofs.naming.name.Tie as tie
+use Rattle.prints.proofs.naming.name.Statement.{statement}
+use Rattle.prints.proofs.naming.name.Tie as tie
 
 name-part-requires : tie.Need-name-part-requires
 name-part-requires c κs = search needs

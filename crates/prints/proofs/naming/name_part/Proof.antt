@@ -1,14 +1,14 @@
--- `peldarox::naming::name_part` meets its contract.
+-- `prints::naming::name_part` meets its contract.
 -- Assumes nothing.
 use mathlib.Core.Path.{ap, _∙_}
 use native.Mathlib.Omega.{arith}
 use Rattle.laws.proofs.Tests.{said-not, said-not-not}
 use Rattle.rules.specs.WellFormed.{isAssignment}
 use Rattle.printable.proofs.Printable.{counts-small}
-use Rattle.peldarox.proofs.Names as names
+use Rattle.prints.proofs.Names as names
 use borrow.Author.Needs.{needs}
-use Rattle.peldarox.proofs.naming.name_part.Statement.{statement}
-use Rattle.peldarox.proofs.naming.name_part.Tie as tie
+use Rattle.prints.proofs.naming.name_part.Statement.{statement}
+use Rattle.prints.proofs.naming.name_part.Tie as tie
 
 well-formed-requires : tie.Need-well-formed-requires
 well-formed-requires c κs = search needs

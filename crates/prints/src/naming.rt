@@ -7,10 +7,10 @@ use wellformed::well_formed;
 ghost use mathlib.Core.Path.{_≡_};
 ghost use Rattle.rules.specs.Prints.{namePart};
 ghost use Rattle.rules.specs.WellFormed.{counts};
-ghost use Rattle.peldarox.specs.Parts.{IsPart};
+ghost use Rattle.prints.specs.Parts.{IsPart};
 
 // Where the name of a statement row stands; empty where the tables are not well formed, and where the row is past the count or no assignment.
-pub(crate) fn name_part(
+pub fn name_part(
     text: &[u8],
     items: &[u32],
     statements: &[u32],
