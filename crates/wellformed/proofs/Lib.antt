@@ -2,7 +2,7 @@ pub mod Clauses
 pub mod Places
 pub mod Along
 pub mod Counted
-pub mod Arities
+pub mod Codes
 pub mod Spans
 pub mod Inside
 pub mod Marked

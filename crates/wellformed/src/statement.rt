@@ -21,84 +21,12 @@ use tables::letters;
 use tables::number_at;
 ghost use mathlib.Core.Path.{_≡_};
 ghost use mathlib.Core.Bool.{true};
-ghost use Prim.Native.Nat.{_≤_, _<_};
+ghost use Prim.Native.Nat.{_≤_};
 ghost use lib.ListN.{length};
-ghost use Rattle.rules.specs.Instructions.{arityOf};
 ghost use Rattle.rules.specs.WellFormed.{nameOk, widthOk, numberOk, blockOk, arity as arityIn, operandsFit, attributesFit, newName, statementOk, statementsOk};
 
 // How many statements are many.
 const MANY: u32 = 64;
-
-// How many operands each instruction takes, by its place.
-const ARITIES: [u8; 59] = [
-    2,
-    2,
-    2,
-    2,
-    2,
-    2,
-    2,
-    2,
-    2,
-    2,
-    2,
-    2,
-    2,
-    2,
-    2,
-    2,
-    2,
-    2,
-    2,
-    2,
-    2,
-    2,
-    2,
-    2,
-    2,
-    2,
-    2,
-    2,
-    2,
-    3,
-    1,
-    1,
-    1,
-    2,
-    2,
-    2,
-    2,
-    2,
-    2,
-    1,
-    1,
-    1,
-    1,
-    1,
-    3,
-    3,
-    2,
-    2,
-    2,
-    2,
-    2,
-    2,
-    2,
-    2,
-    2,
-    2,
-    2,
-    0,
-    1,
-];
-
-// How many operands instruction k takes.
-fn takes(k: usize) -> u8
-    requires { ⌜ k < 59 ⌝ }
-    ensures { λ r. ⌜ r ≡ arityOf k ⌝ }
-{
-    ARITIES[k]
-}
 
 // Whether an assignment has a name that is new in its item, a condition none; a `fresh` name is known to be new.
 fn name_ok(text: &[u8], statements: &[u32], first: u32, i: u32, fresh: bool, r: Statement) -> bool
@@ -154,7 +82,7 @@ fn arity(statements: &[u32], r: Statement) -> u32
 {
     let c = r.code;
     if is_instruction(c) {
-        return takes((c - 1) as usize) as u32;
+        return instructions::arity((c - 1) as usize) as u32;
     }
     if c == code::PHI {
         return number_at(statements, r.block);

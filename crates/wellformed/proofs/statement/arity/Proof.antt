@@ -1,34 +1,38 @@
 -- `arity` meets its contract.
 -- Assumes nothing.
+use Prim.Native.Nat.{_-_}
 use mathlib.Core.Path.{refl}
 use native.Mathlib.Omega.{arith}
 use borrow.Author.Tests.{eq-eqb, ne-eqb}
 use borrow.Author.Needs.{needs}
 use Rattle.rules.specs.WellFormed.{arity}
+use Rattle.laws.proofs.Names.{arity-few}
 use Rattle.laws.proofs.Tests.{said}
 use Rattle.wellformed.proofs.Clauses.{picks, leaves}
-use Rattle.wellformed.proofs.Arities.{instruction-range}
+use Rattle.wellformed.proofs.Codes.{instruction-range}
 use Rattle.wellformed.proofs.statement.arity.Statement.{statement}
 use Rattle.wellformed.proofs.statement.arity.Tie as tie
 
 is-instruction-requires : tie.Need-is-instruction-requires
 is-instruction-requires c κs = search needs
 
-sub-takes : tie.Need-sub-takes
-sub-takes c = omega (arith, instruction-range _ (said (c .before .is-instruction .ensures) (c .if1 .taken)))
+sub-arity : tie.Need-sub-arity
+sub-arity c = omega (arith, instruction-range _ (said (c .before .is-instruction .ensures) (c .if1 .taken)))
 
-cast-takes : tie.Need-cast-takes
-cast-takes c = search needs
+cast-arity : tie.Need-cast-arity
+cast-arity c = search needs
 
-takes-requires : tie.Need-takes-requires
-takes-requires c κs = omega (arith, instruction-range _ (said (c .before .is-instruction .ensures) (c .if1 .taken)))
+arity-requires : tie.Need-arity-requires
+arity-requires c κs = search needs
 
 cast-result : tie.Need-cast-result
-cast-result c = search needs
+cast-result c =
+    let range = instruction-range _ (said (c .before .before .is-instruction .ensures) (c .before .if1 .taken)) in
+    omega (arith, c .arity .ensures, arity-few (c .before .before .before .before .args .r .code - 1) (omega (arith, range)))
 
 returns : tie.Need-returns
 unfolding arity
-returns c = picks _ _ _ (said (c .before .before .is-instruction .ensures) (c .before .if1 .taken)) (c .takes .ensures)
+returns c = picks _ _ _ (said (c .before .before .is-instruction .ensures) (c .before .if1 .taken)) (c .arity .ensures)
 
 number-at-requires : tie.Need-number-at-requires
 number-at-requires c κs = search needs
@@ -61,9 +65,9 @@ arity-spec =
     tie.close
     (tie.spec
     is-instruction-requires
-    sub-takes
-    cast-takes
-    takes-requires
+    sub-arity
+    cast-arity
+    arity-requires
     cast-result
     returns
     number-at-requires
