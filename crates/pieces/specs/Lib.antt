@@ -1,3 +1,2 @@
 -- What the contracts of the pieces speak of, beside the definitions of `rules`.
-pub mod Fields
 pub mod Bounds

@@ -1,5 +1,4 @@
 // Attributes, each in parentheses behind a space.
-use crate::fields::attribute_at;
 use crate::operand::put_integer;
 use crate::operand::put_letters;
 use output::least;
@@ -7,6 +6,7 @@ use output::put;
 use rules::Span;
 use rules::Words;
 use rules::code;
+use tables::rows::attribute_at;
 ghost use mathlib.Core.List.{[], _∷_};
 ghost use Prim.Native.Nat.{_≤_};
 ghost use lib.ListN.{length};

@@ -1,12 +1,12 @@
 // Operands: names, constants with their types, and lists of them.
-use crate::fields::operand_at;
 use output::least;
 use output::put;
 use rules::Span;
 use rules::Words;
 use rules::code;
 use tables::letters;
-use tables::name_at;
+use tables::rows::name_at;
+use tables::rows::operand_at;
 use wide::Wide;
 ghost use mathlib.Core.List.{[], _∷_, _++_};
 ghost use Prim.Native.Nat.{_+_, _≤_};

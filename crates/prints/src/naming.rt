@@ -1,7 +1,7 @@
 // Names of statements, as parts of the caller's text.
 use rules::Span;
-use tables::code_at;
-use tables::name_at;
+use tables::rows::code_at;
+use tables::rows::name_at;
 use wellformed::sort::is_assignment;
 use wellformed::well_formed;
 ghost use mathlib.Core.Path.{_≡_};

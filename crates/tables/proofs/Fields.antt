@@ -1,10 +1,10 @@
--- Rows read back from words: the row claimed last, the rows before it, and the rows among the words that are counted. One law each over the row's length, then one for each kind of row.
+-- Rows read back from words: no place wraps; the row claimed last, the rows before it, and the rows among the words that are counted. One law each over the row's length, then one for each kind of row.
 -- Assumes nothing.
-use Prim.Native.Nat.{ℕ, _+_, _*_, _≤_, _<_}
+use Prim.Native.Nat.{ℕ, _+_, _*_, _≤_, _<_, _^_}
 use mathlib.Core.Path.{_≡_, refl}
 use mathlib.Core.Bool.{true}
 use mathlib.Core.List.{List, _++_}
-use native.Mathlib.Nat.{add-mul, one-mul, mul-le-mul-right}
+use native.Mathlib.Nat.{add-mul, one-mul, mul-le-mul-left, mul-le-mul-right}
 use native.Mathlib.Omega.{arith}
 use borrow.Author.Tests.{ltb-true}
 use lib.Dec.{ltb}
@@ -15,6 +15,10 @@ use Rattle.rules.specs.declared.Statement.{Statement}
 use Rattle.rules.specs.declared.Operand.{Operand}
 use Rattle.rules.specs.declared.Attribute.{Attribute}
 use Rattle.rules.specs.Rows.{itemLength, statementLength, operandLength, attributeLength, field, itemAt, statementAt, operandAt, attributeAt, nameAt, itemWords, statementWords, operandWords, attributeWords}
+
+-- row numbers have 32 bits, and rows at most eleven words
+pub row-fits : (i size : ℕ) → i < 2 ^ 32 → size ≤ 11 → i * size < 2 ^ 40
+row-fits i size h k = let m : i * size ≤ i * 11 = mul-le-mul-left i k in omega arith
 
 -- a word of a row stands before the words of later rows
 within : (k n i j : ℕ) → i < n → j < k → i * k + j < n * k

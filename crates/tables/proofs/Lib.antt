@@ -1,5 +1,5 @@
 pub mod Steps
-pub mod Rows
+pub mod Append
 pub mod Claims
 pub mod Fields
 pub mod Zeros

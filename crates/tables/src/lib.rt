@@ -1,18 +1,18 @@
-// The reader's state, and its four lent tables: claims through one row writer, fields by name, clearing.
+// The reader's state, and its four lent tables: claims through one row writer, rows by value (`rows`), clearing.
 // A refusal stays in the state: whoever is handed a refused state hands it back refused alike, so the rules of the grammar are plain sequences of calls.
+pub mod rows;
+
 use rules::Attribute;
 use rules::Item;
 use rules::Operand;
-use rules::Span;
 use rules::Spot;
 use rules::Statement;
 use rules::fault;
 ghost use mathlib.Core.Path.{_≡_};
 ghost use mathlib.Core.List.{List};
 ghost use Prim.Native.Nat.{ℕ, _≤_, _<_};
-ghost use lib.ListN.{length, getD, take};
+ghost use lib.ListN.{length, take};
 ghost use Rattle.rules.specs.Bytes.{part};
-ghost use Rattle.rules.specs.Rows.{statementAt};
 ghost use Rattle.rules.specs.World as W;
 ghost use Rattle.rules.specs.Reading.{nothing as nothingOf};
 ghost use Rattle.rules.specs.Answers.{padded, lent};
@@ -216,47 +216,6 @@ pub fn claim_attribute(s: State, attributes: &mut [u32], row: Attribute) -> Stat
     }
     u.fault = fault::NO_ROW;
     u
-}
-
-// A word of a table; 0 past its end.
-fn word_at(table: &[u32], at: usize) -> u32
-    ensures { λ r. ⌜ r ≡ getD (now (table .entry)) at 0 ⌝ }
-{
-    if at < table.len() {
-        return table[at];
-    }
-    0
-}
-
-// What statement row i is, by its code.
-pub fn code_at(statements: &[u32], i: u32) -> u32
-    ensures { λ r. ⌜ r ≡ statementAt (now (statements .entry)) i .code ⌝ }
-{
-    word_at(statements, i as usize * STATEMENT_LENGTH)
-}
-
-// Where the name of statement row i stands.
-pub fn name_at(statements: &[u32], i: u32) -> Span
-    ensures { λ r. ⌜ r ≡ statementAt (now (statements .entry)) i .name ⌝ }
-{
-    let at = i as usize * STATEMENT_LENGTH;
-    if at + 2 < statements.len() {
-        return Span {
-            first: statements[at + 1],
-            past: statements[at + 2],
-        };
-    }
-    Span {
-        first: word_at(statements, at + 1),
-        past: 0,
-    }
-}
-
-// The number of statement row i.
-pub fn number_at(statements: &[u32], i: u32) -> u32
-    ensures { λ r. ⌜ r ≡ statementAt (now (statements .entry)) i .number ⌝ }
-{
-    word_at(statements, i as usize * STATEMENT_LENGTH + 4)
 }
 
 // The part of a text from a byte up to another.

@@ -1,20 +1,16 @@
--- Where rows stand: no place wraps, counted rows lie in their table, and counts are small.
+-- Where rows stand: counted rows lie in their table, and counts are small.
 -- Assumes nothing.
 use mathlib.Core.Path.{_≡_}
 use mathlib.Core.Bool.{true, _&&_}
 use mathlib.Core.List.{List}
-use Prim.Native.Nat.{ℕ, _*_, _/_, _≤_, _<_, _^_, min}
-use native.Mathlib.Nat.{mul-le-mul-left, mul-le-mul-right, div-mul-le-self, le-trans}
+use Prim.Native.Nat.{ℕ, _*_, _/_, _≤_, min}
+use native.Mathlib.Nat.{mul-le-mul-right, div-mul-le-self, le-trans}
 use native.Mathlib.Omega.{arith}
 use lib.ListN.{length}
 use borrow.Author.Tests.{leb-true}
 use Rattle.rules.specs.Rows.{itemLength, statementLength, operandLength, attributeLength, capacity}
 use Rattle.rules.specs.WellFormed.{Counts, tableOk, countFits, tablesOk}
 use Rattle.laws.proofs.Tests.{and-left, and-right}
-
--- row numbers have 32 bits, and rows at most eleven words
-pub row-fits : (i size : ℕ) → i < 2 ^ 32 → size ≤ 11 → i * size < 2 ^ 40
-row-fits i size h k = let m : i * size ≤ i * 11 = mul-le-mul-left i k in omega arith
 
 -- as many rows as there is room for
 pub rows-fit : (n size words : ℕ) → n ≤ words / size → n * size ≤ words

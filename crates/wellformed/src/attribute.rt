@@ -3,11 +3,11 @@ use crate::letters::demanded_in;
 use crate::letters::known_in;
 use crate::letters::no_span;
 use crate::operand::at_most;
-use crate::row::attribute_at;
 use crate::sort::inside;
 use rules::Attribute;
 use rules::Span;
 use rules::code;
+use tables::rows::attribute_at;
 ghost use mathlib.Core.Path.{_≡_};
 ghost use Rattle.rules.specs.WellFormed.{patternOk, greatest as greatestOf, numbersOk, attributeOk, attributesOk};
 

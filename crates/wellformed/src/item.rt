@@ -3,12 +3,12 @@ use crate::attribute::attributes_ok;
 use crate::operand::long;
 use crate::operand::operands_ok;
 use crate::operand::refers_to;
-use crate::row::item_at;
 use crate::sort::infers;
 use crate::sort::inside;
 use crate::statement::statements_ok;
 use rules::Item;
 use rules::code;
+use tables::rows::item_at;
 ghost use mathlib.Core.Path.{_≡_};
 ghost use Rattle.rules.specs.WellFormed.{middleOk, kindOk, kindsOk, inferOk, closingArity, closingOk, rootsOk, itemOk, itemsOk};
 

@@ -1,7 +1,7 @@
 // Names and patterns: places in the text, and the letters there.
 use rules::Span;
 use tables::letters;
-use tables::name_at;
+use tables::rows::name_at;
 ghost use mathlib.Core.Path.{_≡_};
 ghost use Rattle.rules.specs.Bytes.{count, patternByte, same as sameBytes};
 ghost use Rattle.rules.specs.Rows.{nameAt};

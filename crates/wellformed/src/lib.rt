@@ -5,7 +5,6 @@ mod item;
 mod letters;
 mod operand;
 mod owned;
-mod row;
 mod seen;
 pub mod sort;
 mod statement;

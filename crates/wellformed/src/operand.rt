@@ -1,11 +1,11 @@
 // References, and operand rows.
-use crate::row::operand_at;
 use crate::sort::is_assignment;
 use rules::Operand;
 use rules::Span;
 use rules::Words;
 use rules::code;
-use tables::code_at;
+use tables::rows::code_at;
+use tables::rows::operand_at;
 ghost use mathlib.Core.Path.{_≡_};
 ghost use Prim.Native.Nat.{_-_};
 ghost use Rattle.rules.specs.WellFormed.{long as longOf, among as amongOf, refersTo, refersToBlock, atMost, widthFits, valueOk, constantOk, operandOk, operandsOk};

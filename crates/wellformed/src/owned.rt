@@ -1,9 +1,9 @@
 // Whether rows are consecutive: the spans that own them, in reading order, each begin where the one before ended.
-use crate::row::item_at;
-use crate::row::span;
 use rules::Item;
 use rules::Span;
 use tables::STATEMENT_LENGTH;
+use tables::rows::item_at;
+use tables::rows::span_at;
 ghost use mathlib.Core.Path.{_≡_};
 ghost use mathlib.Core.List.{[], _∷_};
 ghost use Prim.Native.Nat.{_≤_};
@@ -44,7 +44,7 @@ fn follow_statements(statements: &[u32], column: usize, first: u32, end: u32, at
     let mut reached = at;
     let mut i = first;
     while i < end {
-        let s = span(statements, STATEMENT_LENGTH, i, column);
+        let s = span_at(statements, STATEMENT_LENGTH, i, column);
         let Reached::At(next) = follow(s, reached) else {
             return Reached::Broken;
         };

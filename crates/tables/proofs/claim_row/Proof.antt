@@ -8,7 +8,7 @@ use native.Mathlib.Omega.{arith}
 use borrow.Author.Needs.{needs}
 use lib.ListN.{length, length-set, take, drop}
 use lib.Seq.{sets}
-use Rattle.tables.proofs.Rows.{fits, stored, all-stored, append, room, no-room, too-many}
+use Rattle.tables.proofs.Append.{fits, stored, all-stored, append, room, no-room, too-many}
 use Rattle.tables.proofs.claim_row.Statement.{statement}
 use Rattle.tables.proofs.claim_row.Tie as tie
 

@@ -17,7 +17,7 @@ use Rattle.parser.proofs.names.block.Reads as block-reads
 use Rattle.parser.proofs.token.Reads as token-reads
 use Rattle.reader.proofs.operands.further_operands.Reads as further-operands-reads
 use Rattle.reader.proofs.sides.with_side.Reads as with-side-reads
-use Rattle.tables.proofs.number_at.Reads as number-at-reads
+use Rattle.tables.proofs.rows.number_at.Reads as number-at-reads
 
 token-requires : tie.Need-token-requires
 token-requires c κs = search needs

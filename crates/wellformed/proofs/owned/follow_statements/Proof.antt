@@ -21,8 +21,8 @@ abbrev μ-loop : tie.MeasureT-loop
 loop-holds : tie.Need-loop-holds Inv-loop μ-loop
 loop-holds c = following-begin
 
-span-requires : tie.Need-span-requires Inv-loop μ-loop
-span-requires c κs = search needs
+span-at-requires : tie.Need-span-at-requires Inv-loop μ-loop
+span-at-requires c κs = search needs
 
 follow-requires : tie.Need-follow-requires Inv-loop μ-loop
 follow-requires c κs = search needs
@@ -34,7 +34,7 @@ enum-told : tie.Need-enum-told Inv-loop μ-loop
 enum-told c = search needs
 
 returns : tie.Need-returns Inv-loop μ-loop
-returns c = following-stop (c .before .before .before .before .before .loop .inv) (span-step _ (search needs) (spans-as (c .before .before .follow .ensures) (ap (λ (s : Span). s ∷ []) (c .before .before .before .span .ensures)))) (c .enum-told .given .1)
+returns c = following-stop (c .before .before .before .before .before .loop .inv) (span-step _ (search needs) (spans-as (c .before .before .follow .ensures) (ap (λ (s : Span). s ∷ []) (c .before .before .before .span-at .ensures)))) (c .enum-told .given .1)
 
 add-i : tie.Need-add-i Inv-loop μ-loop
 add-i c = search needs
@@ -43,7 +43,7 @@ loop-less : tie.Need-loop-less Inv-loop μ-loop
 loop-less c = search needs
 
 loop-again : tie.Need-loop-again Inv-loop μ-loop
-loop-again c = following-more (c .before .before .before .before .before .before .loop .inv) (span-step _ (search needs) (spans-as (c .before .before .before .follow .ensures) (ap (λ (s : Span). s ∷ []) (c .before .before .before .before .span .ensures)))) (c .before .next .given .1)
+loop-again c = following-more (c .before .before .before .before .before .before .loop .inv) (span-step _ (search needs) (spans-as (c .before .before .before .follow .ensures) (ap (λ (s : Span). s ∷ []) (c .before .before .before .before .span-at .ensures)))) (c .before .next .given .1)
 
 returns-2 : tie.Need-returns-2 Inv-loop μ-loop
 returns-2 c = following-end (c .before .loop .inv) (each-end (λ j. spanAt statementLength (c .before .before .before .args .statements .now) j (c .before .before .before .args .column)) (c .before .loop .i) (c .before .before .before .args .end) (search needs))
@@ -55,7 +55,7 @@ follow-statements-spec =
     Inv-loop
     μ-loop
     loop-holds
-    span-requires
+    span-at-requires
     follow-requires
     enum-known-next
     enum-told
