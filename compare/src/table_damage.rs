@@ -82,9 +82,7 @@ fn letters(tables: &Tables, changed: &mut Tables, give: &mut impl FnMut(&Tables)
 
 /// Damages tables in one place, by chance. Tables of no rows stay as they are.
 pub fn damage(random: &mut Random, tables: &mut Tables) {
-    let rows =
-        std::array::from_fn(|table| (tables.counts[table] as usize).min(tables.words[table].len() / ROW_WORDS[table]));
-    let mut damage = Damage { random, tables, rows };
+    let mut damage = Damage::of(random, tables);
     match damage.random.below(20) {
         0 => damage.any_word(),
         1 | 2 => damage.word_of_another_row(),
@@ -104,6 +102,11 @@ pub fn damage(random: &mut Random, tables: &mut Tables) {
     }
 }
 
+/// One name becomes another part of the text.
+pub fn rename(random: &mut Random, tables: &mut Tables) {
+    Damage::of(random, tables).name()
+}
+
 struct Damage<'a> {
     random: &'a mut Random,
     tables: &'a mut Tables,
@@ -111,7 +114,14 @@ struct Damage<'a> {
     rows: [usize; 4],
 }
 
-impl Damage<'_> {
+impl<'a> Damage<'a> {
+    fn of(random: &'a mut Random, tables: &'a mut Tables) -> Self {
+        let rows = std::array::from_fn(|table| {
+            (tables.counts[table] as usize).min(tables.words[table].len() / ROW_WORDS[table])
+        });
+        Damage { random, tables, rows }
+    }
+
     fn row(&mut self, table: usize) -> Option<usize> {
         (self.rows[table] > 0).then(|| self.random.below(self.rows[table]))
     }

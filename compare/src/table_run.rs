@@ -51,8 +51,11 @@ impl Tally<'_> {
         }
     }
 
-    /// A text by the grammar; one in a thousand is long.
+    /// A text by the grammar; one in a thousand is long, and one in a hundred has many names.
     fn text_of_chance(&mut self) {
+        if self.random.chance(10) {
+            return self.many_names();
+        }
         if self.random.chance(1) {
             let bytes = self.random.one(&[2_000, 20_000, LONGEST]);
             let statements = if self.random.chance(500) { 3..31 } else { 1_000..5_000 };
@@ -62,6 +65,22 @@ impl Tally<'_> {
         let entry = self.random.one(&ENTRIES);
         let text = generate::text(&mut self.random, entry, 0);
         self.text(entry, &text);
+    }
+
+    /// Changes names of one item, of about as many statements as from which the library tests names through marks, or more.
+    fn many_names(&mut self) {
+        let statements = self.random.one(&[62, 63, 64, 65, 100, 300]);
+        let text = generate::one_item(&mut self.random, LONGEST, statements);
+        let tables = Tables::of(&text, &model::read(Entry::Replacements, &text));
+        self.room = Case::of(&tables).needed();
+        self.compare(&tables);
+        for _ in 0..BY_CHANCE / 10 {
+            let mut changed = tables.clone();
+            for _ in 0..self.random.one(&[1, 1, 2]) {
+                table_damage::rename(&mut self.random, &mut changed);
+            }
+            self.compare(&changed);
+        }
     }
 
     /// Damages the tables of a text, where it is accepted.
