@@ -24,8 +24,9 @@ use Rattle.laws.proofs.Cases.{by-cases}
 use Rattle.laws.proofs.Tests.{and-left, and-right}
 use Rattle.simulation.proofs.Tokens.{world}
 use Rattle.simulation.proofs.Stable.{withAttribute, attribute-sized, attribute-later, attribute-stays, Says, says-later}
+use Rattle.simulation.proofs.Attributes.{pattern-letters}
 use Rattle.accepted.proofs.Padding.{and-both, Fit, fit-append}
-use Rattle.accepted.proofs.Letters.{pattern-is, all-bits, pattern-letters}
+use Rattle.accepted.proofs.Letters.{pattern-is, all-bits}
 use Rattle.accepted.proofs.Going.{Word, Any, Sits, Reads, reads, read-then, Goes, goes, stops, after, then, either, weaker, claims, look-reads, token-reads, expect-reads}
 use Rattle.accepted.proofs.Numbers.{int-reads, field-reads}
 use Rattle.accepted.proofs.Operands.{Holds, Grown, grown-same, grown-more, words-fit, small-word}

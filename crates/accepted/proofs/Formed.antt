@@ -4,7 +4,7 @@
 use Prim.Native.Nat.{ℕ, _+_, _-_}
 use mathlib.Core.Path.{_≡_, refl}
 use mathlib.Core.Bool.{true}
-use mathlib.Core.List.{List, _++_}
+use mathlib.Core.List.{List}
 use native.Mathlib.Omega.{arith}
 use borrow.Author.Tests.{le-leb}
 use lib.ListN.{length}
@@ -14,36 +14,15 @@ use Rattle.rules.specs.Rows.{itemAt, itemLength, statementLength, operandLength
 use Rattle.rules.specs.Syntax.{flat}
 use Rattle.rules.specs.View.{each}
 use Rattle.rules.specs.WellFormed.{counts, consecutive, operandSpans, attributeSpans, statementsOwned, operandsOwned, attributesOwned, kindOk, kindsOk, rowsOwned, itemOk, itemsOk, tablesOk, shortText, wellFormed}
-use Rattle.rules.specs.World.{Table, Tables}
+use Rattle.rules.specs.World.{Tables}
 use Rattle.rules.specs.Answers.{Lent, lent, start, Outcome, accepted, refusal, reading, answerOf, rowsOf, padded, Ends, Reads}
-use Rattle.tables.proofs.Fields.{before, item-same, statement-same, operand-same, attribute-same}
 use Rattle.reading.proofs.Fitting.{accepted-fits}
 use Rattle.wellformed.proofs.Along.{passes-rows}
-use Rattle.simulation.proofs.Stable.{Sized, Later}
+use Rattle.simulation.proofs.Stable.{Later}
+use Rattle.simulation.proofs.Left.{holdingAll, behind}
 use Rattle.accepted.proofs.Padding.{and-both, padded-ok}
 use Rattle.simulation.proofs.Calls.{Call}
 use Rattle.accepted.proofs.Whole.{ItemedAll, accepted-short, accepted-itemed}
-
--- a table with other words
-abbrev holding : Table → List ℕ → Table
-holding t ws = record { cap = t .cap; count = t .count; words = ws }
-
-abbrev holdingAll : Tables → List ℕ → List ℕ → List ℕ → List ℕ → Tables
-holdingAll t I S O A = record { items = holding (t .items) I; statements = holding (t .statements) S; operands = holding (t .operands) O; attributes = holding (t .attributes) A }
-
--- words behind the counted rows change no row
-behind : (t : Tables) → Sized t → (i s o a : List ℕ) → Later t (holdingAll t (t .items .words ++ i) (t .statements .words ++ s) (t .operands .words ++ o) (t .attributes .words ++ a))
-behind t z i s o a =
-    record {
-      items = omega arith;
-      statements = omega arith;
-      operands = omega arith;
-      attributes = omega arith;
-      item = λ j h. item-same _ _ j (before itemLength (t .items .count) (t .items .words) i (z .items) j h);
-      statement = λ j h. statement-same _ _ j (before statementLength (t .statements .count) (t .statements .words) s (z .statements) j h);
-      operand = λ j h. operand-same _ _ j (before operandLength (t .operands .count) (t .operands .words) o (z .operands) j h);
-      attribute = λ j h. attribute-same _ _ j (before attributeLength (t .attributes .count) (t .attributes .words) a (z .attributes) j h);
-    }
 
 module _ (e : Entry) (text : List ℕ) (l : Lent) (t : Tables) (h : reading e text l ≡ accepted t) where
   abbrev I : List ℕ

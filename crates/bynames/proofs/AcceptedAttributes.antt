@@ -9,7 +9,7 @@ use borrow.Author.Tests.{eqb-true}
 use Rattle.rules.specs.Bytes.{bytes, count, same}
 use Rattle.rules.specs.Tokens as T
 use Rattle.rules.specs.Syntax.{knownBits, powerOfTwo, negative, nonNegative, nonZero, hasExternalUses, signBits, range, demandedBits, harvestedFromUse, Statement}
-use Rattle.bynames.proofs.Members.{All}
+use Rattle.rules.specs.Meaning.{All}
 use Rattle.bynames.proofs.WellFormed.{bitByte, AttributeOk, RootAttributeOk}
 use Rattle.bynames.proofs.Reader as R
 use Rattle.bynames.proofs.Reader.{State, P}

@@ -11,7 +11,8 @@ use Rattle.rules.specs.Bytes.{bytes, same}
 use Rattle.rules.specs.Tokens as T
 use Rattle.rules.specs.Syntax.{Name, Operand, Statement, assignment, pc, blockpc, cand, infer, result, Item, onto, ofOperand}
 use Rattle.rules.specs.Listing.{has}
-use Rattle.bynames.proofs.Members.{All, all-append}
+use Rattle.rules.specs.Meaning.{All}
+use Rattle.laws.proofs.Members.{all-append}
 use Rattle.bynames.proofs.WellFormed.{TypingOk, AttributeOk, RootAttributeOk, ClosingOk, Known, Fits, Wf}
 use Rattle.bynames.proofs.Names.{has-older}
 use Rattle.bynames.proofs.Reader as R

@@ -13,7 +13,8 @@ use Rattle.rules.specs.Instructions.{instructionOf, arityOf}
 use Rattle.rules.specs.Tokens as T
 use Rattle.rules.specs.Syntax.{Name, typed, Operand, RightSide, var, block, phi, reservedinst, reservedconst, Statement, flat, ofOperand, ofSide}
 use Rattle.rules.specs.Listing.{has}
-use Rattle.bynames.proofs.Members.{All, all-append}
+use Rattle.rules.specs.Meaning.{All}
+use Rattle.laws.proofs.Members.{all-append}
 use Rattle.bynames.proofs.WellFormed.{TypingOk, OperandOk, SideOk, Known, sideOf, isBlock, blockSize, SideFits}
 use Rattle.bynames.proofs.Tokens.{Next, end, bad, found}
 use Rattle.bynames.proofs.Reader as R
@@ -33,7 +34,7 @@ pub either : {A : Type 0} (Q : A → State → Type 0) (b : Bool) (f g : P A) (w
 either Q true f g w h k = h refl
 either Q false f g w h k = k refl
 
-choice : {A : Type 0} (Q : A → State → Type 0) (b : Bool) (x y : Res A) → (b ≡ true → Ok Q x) → (b ≡ false → Ok Q y) → Ok Q (cond b x y)
+pub choice : {A : Type 0} (Q : A → State → Type 0) (b : Bool) (x y : Res A) → (b ≡ true → Ok Q x) → (b ≡ false → Ok Q y) → Ok Q (cond b x y)
 choice Q true x y h k = h refl
 choice Q false x y h k = k refl
 

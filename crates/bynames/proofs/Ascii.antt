@@ -18,8 +18,8 @@ use Rattle.rules.specs.Tokens.{intStart}
 use Rattle.rules.specs.Syntax.{Name, Typing, untyped, typed, Operand, value, constant, RightSide, var, block, phi, reservedinst, reservedconst, instruction, Attribute, knownBits, powerOfTwo, negative, nonNegative, nonZero, hasExternalUses, signBits, range, RootAttribute, demandedBits, harvestedFromUse, Statement, assignment, pc, blockpc, Closing, inferResult, cand, infer, result, Item, onto}
 use Rattle.rules.specs.Listing.{listedBefore, listedBetween}
 use Rattle.rules.specs.Printing.{name, number, feed, typing, operand, further, operands, side, attribute, rootAttribute, attributes, lines, firstClosing, secondClosing, printed, printedAll}
+use Rattle.rules.specs.Meaning.{All}
 use Rattle.laws.proofs.Tests.{and-left, and-right}
-use Rattle.bynames.proofs.Members.{All}
 use Rattle.bynames.proofs.WellFormed.{Each, IsName, IsPattern, bitByte, TypingOk, OperandOk, SideOk, AttributeOk, RootAttributeOk, AssignmentOk, ClosingOk, Wf}
 use Rattle.bynames.proofs.Tokens.{or-cases}
 use Rattle.bynames.proofs.Decimals.{decimal-printed}
@@ -102,7 +102,7 @@ number-keeps c h r k =
     ascii-before (decimal c) r
     (subst (λ (z : List ℕ). ascii z ≡ true) (sym (p .spelt)) (rw (le-leb (p .first) 127 (start-low (p .first) (p .starts))) (each-ascii digit digit-low (p .rest) (p .each)))) k
 
-small : (width c : ℕ) → leb (2 ^ width) (2 ^ 128) ≡ true → c < 2 ^ width → c < 2 ^ 128
+pub small : (width c : ℕ) → leb (2 ^ width) (2 ^ 128) ≡ true → c < 2 ^ width → c < 2 ^ 128
 small width c e h = le-trans h (leb-true (2 ^ width) (2 ^ 128) e)
 
 typing-keeps : (y : Typing) → TypingOk y → Keeps (typing y)

@@ -14,7 +14,7 @@ use Rattle.rules.specs.Integers.{decimal}
 use Rattle.rules.specs.Tokens as T
 use Rattle.rules.specs.Syntax.{Attribute, knownBits, powerOfTwo, negative, nonNegative, nonZero, hasExternalUses, signBits, range, RootAttribute, demandedBits, harvestedFromUse, Statement}
 use Rattle.rules.specs.Printing.{number, feed, attribute, rootAttribute, attributes}
-use Rattle.bynames.proofs.Members.{All}
+use Rattle.rules.specs.Meaning.{All}
 use Rattle.bynames.proofs.WellFormed.{Each, IsPattern, bitByte, AttributeOk, RootAttributeOk}
 use Rattle.bynames.proofs.Tokens.{found, token, token-space, or-cases}
 use Rattle.bynames.proofs.Pieces.{IsInt, int-token, pattern-token, comma-token, equals-token, open-token, close-token, bracket-token, isWord, is-word}
@@ -27,7 +27,7 @@ app-long [] r = omega arith
 app-long (b ∷ x) r = omega (arith, app-long x r)
 
 -- ---- the letters of a demandedBits pattern are an integer's token
-each-count : (p : ℕ → Bool) (w : List ℕ) → Each p w → count p w ≡ length w
+pub each-count : (p : ℕ → Bool) (w : List ℕ) → Each p w → count p w ≡ length w
 each-count p [] a = refl
 each-count p (b ∷ w) a = rw (a .0) (ap suc (each-count p w (a .1)))
 

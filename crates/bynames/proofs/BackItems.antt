@@ -10,7 +10,8 @@ use Rattle.rules.specs.Syntax.{Name, Operand, value, constant, RootAttribute, S
 use Rattle.rules.specs.Listing.{has}
 use Rattle.rules.specs.Printing.{name, feed, typing, operand, rootAttribute, attributes, lines, resultLine, firstClosing, laid}
 use Rattle.rules.specs.Integers.{decimal}
-use Rattle.bynames.proofs.Members.{All, all-left, all-right}
+use Rattle.rules.specs.Meaning.{All}
+use Rattle.laws.proofs.Members.{all-left, all-right}
 use Rattle.bynames.proofs.WellFormed.{OperandOk, RootAttributeOk, ClosingOk, Known, Wf}
 use Rattle.bynames.proofs.Tokens.{found, token, token-space}
 use Rattle.bynames.proofs.Pieces.{name-token, int-token, isWord, is-word}

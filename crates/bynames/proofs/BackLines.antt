@@ -12,7 +12,7 @@ use Rattle.rules.specs.Instructions.{instructionName}
 use Rattle.rules.specs.Tokens as T
 use Rattle.rules.specs.Syntax.{Typing, untyped, typed, Operand, value, constant, RightSide, var, block, phi, reservedinst, reservedconst, instruction, Assignment, Statement, assignment, pc, blockpc, onto}
 use Rattle.rules.specs.Printing.{name, feed, typing, operand, further, operands, side, attribute, attributes, line, lines}
-use Rattle.bynames.proofs.Members.{All}
+use Rattle.rules.specs.Meaning.{All}
 use Rattle.bynames.proofs.WellFormed.{AttributeOk, AssignmentOk, Fits, Wf}
 use Rattle.bynames.proofs.Tokens.{found, token, token-space}
 use Rattle.bynames.proofs.Pieces.{name-token, equals-token}

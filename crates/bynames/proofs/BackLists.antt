@@ -9,10 +9,11 @@ use lib.Dec.{eqb}
 use lib.ListN.{length}
 use Rattle.rules.specs.Bytes.{bytes}
 use Rattle.rules.specs.Syntax.{Name, Operand, RootAttribute, Assignment, Statement, assignment, pc, blockpc, Closing, inferResult, cand, infer, result, Item, onto, scope, firstRoots, secondRoots}
-use Rattle.rules.specs.Meaning.{Mem, Reachable}
+use Rattle.rules.specs.Meaning.{Mem, Reachable, All}
 use Rattle.rules.specs.Listing.{has, listing, listedBefore, listedBetween}
 use Rattle.rules.specs.Printing.{feed, operand, rootAttribute, attributes, lines, inferLine, resultLine, candLine, firstClosing, secondClosing, printed, printedAll}
-use Rattle.bynames.proofs.Members.{All, all-of, all-right, mem-onto, mem-below}
+use Rattle.laws.proofs.Members.{all-of, all-right}
+use Rattle.bynames.proofs.Members.{mem-onto, mem-below}
 use Rattle.bynames.proofs.WellFormed.{RootAttributeOk, Wf, WfItem}
 use Rattle.bynames.proofs.Canon.{canon, canon-reached, canon-wf, before-known}
 use Rattle.bynames.proofs.Tokens.{token}

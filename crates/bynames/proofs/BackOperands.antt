@@ -13,7 +13,8 @@ use Rattle.rules.specs.Tokens as T
 use Rattle.rules.specs.Syntax.{Typing, untyped, typed, Operand, value, constant, Statement, flat, ofOperand}
 use Rattle.rules.specs.Listing.{has}
 use Rattle.rules.specs.Printing.{number, typing, operand, further, operands}
-use Rattle.bynames.proofs.Members.{All, all-left, all-right}
+use Rattle.rules.specs.Meaning.{All}
+use Rattle.laws.proofs.Members.{all-left, all-right}
 use Rattle.bynames.proofs.WellFormed.{TypingOk, OperandOk, Known}
 use Rattle.bynames.proofs.Tokens.{token, Stops}
 use Rattle.bynames.proofs.Pieces.{name-token, word-token, int-token, colon-token, comma-token}

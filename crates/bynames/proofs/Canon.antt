@@ -7,7 +7,8 @@ use mathlib.Core.List.{List, [], _++_}
 use Rattle.rules.specs.Syntax.{Name, Assignment, Statement, assignment, Closing, Item, flat, onto, scope, firstRoots, secondRoots}
 use Rattle.rules.specs.Meaning.{Mem, Reachable, SameMeaning}
 use Rattle.rules.specs.Listing.{has, unfolded, firsts, listedBefore, listedBetween}
-use Rattle.bynames.proofs.Members.{Within, all-at, all-left, all-right, mem-left, mem-right, mem-flat, flat-mem, flat-cong, flat-append}
+use Rattle.laws.proofs.Members.{all-at, all-left, all-right, mem-left, mem-right, mem-flat, flat-mem, flat-cong, flat-append}
+use Rattle.bynames.proofs.Members.{Within}
 use Rattle.bynames.proofs.WellFormed.{Known, Wf, WfItem}
 use Rattle.bynames.proofs.Unfolded.{agree, ReachedAs, unfolded-reach, reach-unfolded, unfolded-within}
 use Rattle.bynames.proofs.Gather.{gather, onto-firsts, Adds, gather-flat, gather-unfolded, gather-only, gather-has, gather-append}

@@ -6,9 +6,8 @@ use mathlib.Core.List.{List, [], _∷_}
 use Prim.Native.Nat.{ℕ}
 use native.Mathlib.Omega.{arith}
 use Rattle.rules.specs.Syntax.{Item}
-use Rattle.rules.specs.Meaning.{SameMeanings, none, more}
+use Rattle.rules.specs.Meaning.{SameMeanings, none, more, All}
 use Rattle.rules.specs.Printing.{laid, printed, printedAll}
-use Rattle.bynames.proofs.Members.{All}
 use Rattle.bynames.proofs.Canon.{canon, meaning-canon, canon-same}
 use Rattle.bynames.proofs.Reader.{Entry, reading, accepted}
 use Rattle.bynames.proofs.BackLists.{Readable, canons, print-read}

@@ -14,13 +14,10 @@ use Rattle.rules.specs.Integers.{number, behind, unsigned, fits, opposite, inte
 use Rattle.rules.specs.Tokens.{intStart}
 use Rattle.laws.proofs.Same.{by-cond}
 use Rattle.laws.proofs.Tests.{and-left}
-use Rattle.bynames.proofs.Members.{all-append}
+use Rattle.laws.proofs.Opposite.{opposite-is, left}
+use Rattle.laws.proofs.Members.{all-append}
 use Rattle.bynames.proofs.WellFormed.{Each}
 use Rattle.bynames.proofs.Pieces.{IsInt}
-
-by-cases : (t : Bool) {P : Type 0} → (t ≡ true → P) → (t ≡ false → P) → P
-by-cases true f g = f refl
-by-cases false f g = g refl
 
 is-digit : (d : ℕ) → d < 10 → digit (48 + d) ≡ true
 unfolding digit inside
@@ -105,23 +102,6 @@ says-int n l s =
 minus-int : (n : ℕ) (l : List ℕ) → Says n l → IsInt (45 ∷ l)
 unfolding intStart
 minus-int n l s = record { first = 45; rest = l; spelt = refl; starts = refl; each = s .each }
-
--- what is left to M, where T is its half
-record Left (M T b : ℕ) : Type 0 where
-  pub half : M - b ≤ T
-  pub less : M - b < M
-  pub some : 0 < M - b
-  pub twice : M - (M - b) ≡ b
-  pub there : 0 < b
-
-left : (M T b : ℕ) → M ≡ T + T → 0 < T → T ≤ b → b < M → Left M T b
-left M T b e z h k = record { half = omega arith; less = omega arith; some = omega arith; twice = omega arith; there = omega arith }
-
-opposite-is : (b : ℕ) → 0 < b → opposite b ≡ 2 ^ 128 - b
-opposite-is b h = rw (ne-eqb b 0 (λ e. apart b h e))
-  where
-    apart : (b : ℕ) → 0 < b → b ≡ 0 → ⊥
-    apart b h e = omega arith
 
 -- a number of 128 bits, printed
 pub record Printed (b : ℕ) (w : List ℕ) : Type 0 where

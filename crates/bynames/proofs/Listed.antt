@@ -6,10 +6,11 @@ use mathlib.Core.Logic.{⊎-elim}
 use mathlib.Core.List.{List, [], _∷_, _++_}
 use Prim.Native.Nat.{ℕ}
 use Rattle.rules.specs.Syntax.{Name, Assignment, Statement, assignment, pc, blockpc, Item, onto, scope, refers, firstRoots, secondRoots, roots}
-use Rattle.rules.specs.Meaning.{Mem, Reachable}
+use Rattle.rules.specs.Meaning.{Mem, Reachable, All}
 use Rattle.rules.specs.Listing.{assigns, has, listedBefore, listedBetween}
 use Rattle.laws.proofs.Same.{not-both, same-true, same-refl}
-use Rattle.bynames.proofs.Members.{All, all-at, mem-left, mem-right, mem-split, mem-onto, mem-below, onto-mem}
+use Rattle.laws.proofs.Members.{all-at, mem-left, mem-right, mem-split}
+use Rattle.bynames.proofs.Members.{mem-onto, mem-below, onto-mem}
 use Rattle.bynames.proofs.WellFormed.{Fits, Wf, WfItem}
 use Rattle.bynames.proofs.Names.{Assigned, has-member, member-has}
 use Rattle.bynames.proofs.Canon.{canon, canon-reached, canon-reach, canon-wf, before-known}

@@ -1,61 +1,15 @@
--- Members of lists, and what holds of all of them.
+-- Lists within lists, and members of a list put onto another.
 -- Assumes nothing.
-use mathlib.Core.Path.{_≡_, refl, sym, ap, _∙_, subst}
 use mathlib.Core.Logic.{_⊎_, inl, inr, ⊎-elim}
-use mathlib.Core.List.{List, [], _∷_, _++_, append-assoc}
-use Rattle.rules.specs.Syntax.{flat, onto}
+use mathlib.Core.List.{List, [], _∷_}
+use Rattle.rules.specs.Syntax.{onto}
 use Rattle.rules.specs.Meaning.{Mem}
-
--- each element of a list is so
-abbrev pub All : {A : Type 0} → (A → Type 0) → List A → Type 0
-All P [] = Unit {0}
-All P (x ∷ l) = P x × All P l
 
 -- each element of one list is one of the other
 abbrev pub Within : {A : Type 0} → List A → List A → Type 0
 Within {A} s t = (c : A) → Mem c s → Mem c t
 
 module _ {A : Type 0} where
-  pub all-at : (P : A → Type 0) (xs : List A) → All P xs → (x : A) → Mem x xs → P x
-  all-at P [] a x h = absurd h
-  all-at P (y ∷ ys) a x (inl e) = subst P (sym e) (a .0)
-  all-at P (y ∷ ys) a x (inr h) = all-at P ys (a .1) x h
-
-  pub all-of : (P : A → Type 0) (xs : List A) → ((x : A) → Mem x xs → P x) → All P xs
-  all-of P [] f = tt
-  all-of P (y ∷ ys) f = (f y (inl refl), all-of P ys (λ x h. f x (inr h)))
-
-  pub mem-left : (y : A) (xs ys : List A) → Mem y xs → Mem y (xs ++ ys)
-  mem-left y [] ys h = absurd h
-  mem-left y (x ∷ xs) ys (inl e) = inl e
-  mem-left y (x ∷ xs) ys (inr h) = inr (mem-left y xs ys h)
-
-  pub mem-right : (y : A) (xs ys : List A) → Mem y ys → Mem y (xs ++ ys)
-  mem-right y [] ys h = h
-  mem-right y (x ∷ xs) ys h = inr (mem-right y xs ys h)
-
-  pub mem-split : (y : A) (xs ys : List A) → Mem y (xs ++ ys) → Mem y xs ⊎ Mem y ys
-  mem-split y [] ys h = inr h
-  mem-split y (x ∷ xs) ys (inl e) = inl (inl e)
-  mem-split y (x ∷ xs) ys (inr h) = ⊎-elim (λ (l : Mem y xs). inl (inr l)) (λ (q : Mem y ys). inr q) (mem-split y xs ys h)
-
-  pub mem-one : (y x : A) → Mem y (x ∷ []) → y ≡ x
-  mem-one y x (inl e) = e
-  mem-one y x (inr n) = absurd n
-
-  pub all-append : (P : A → Type 0) (xs ys : List A) → All P xs → All P ys → All P (xs ++ ys)
-  all-append P [] ys a b = b
-  all-append P (x ∷ xs) ys a b = (a .0, all-append P xs ys (a .1) b)
-
-  pub all-left : (P : A → Type 0) (xs ys : List A) → All P (xs ++ ys) → All P xs
-  all-left P [] ys a = tt
-  all-left P (x ∷ xs) ys a = (a .0, all-left P xs ys (a .1))
-
-  pub all-right : (P : A → Type 0) (xs ys : List A) → All P (xs ++ ys) → All P ys
-  all-right P [] ys a = a
-  all-right P (x ∷ xs) ys a = all-right P xs ys (a .1)
-
-  -- ---- a list put onto another
   pub mem-below : (y : A) (xs ys : List A) → Mem y ys → Mem y (onto xs ys)
   mem-below y [] ys h = h
   mem-below y (x ∷ xs) ys h = mem-below y xs (x ∷ ys) (inr h)
@@ -72,24 +26,3 @@ module _ {A : Type 0} where
       side : Mem y (x ∷ ys) → Mem y (x ∷ xs) ⊎ Mem y ys
       side (inl e) = inl (inl e)
       side (inr q) = inr q
-
-module _ {A B : Type 0} where
-  pub mem-flat : (f : A → List B) (y : B) (j : A) (xs : List A) → Mem j xs → Mem y (f j) → Mem y (flat f xs)
-  mem-flat f y j [] h q = absurd h
-  mem-flat f y j (x ∷ xs) (inl e) q = mem-left y (f x) (flat f xs) (subst (λ (n : A). Mem y (f n)) e q)
-  mem-flat f y j (x ∷ xs) (inr h) q = mem-right y (f x) (flat f xs) (mem-flat f y j xs h q)
-
-  pub flat-mem : (f : A → List B) (y : B) (xs : List A) → Mem y (flat f xs) → (j : A) × Mem j xs × Mem y (f j)
-  flat-mem f y [] h = absurd h
-  flat-mem f y (x ∷ xs) h =
-      ⊎-elim (λ (l : Mem y (f x)). (x, inl refl, l))
-      (λ (q : Mem y (flat f xs)). let g : (j : A) × Mem j xs × Mem y (f j) = flat-mem f y xs q in (g .0, inr (g .1), g .2))
-      (mem-split y (f x) (flat f xs) h)
-
-  pub flat-cong : (f g : A → List B) (xs : List A) → ((j : A) → Mem j xs → f j ≡ g j) → flat f xs ≡ flat g xs
-  flat-cong f g [] h = refl
-  flat-cong f g (x ∷ xs) h = ap (λ (l : List B). l ++ flat f xs) (h x (inl refl)) ∙ ap (λ (l : List B). g x ++ l) (flat-cong f g xs (λ j q. h j (inr q)))
-
-  pub flat-append : (f : A → List B) (xs ys : List A) → flat f (xs ++ ys) ≡ flat f xs ++ flat f ys
-  flat-append f [] ys = refl
-  flat-append f (x ∷ xs) ys = ap (λ (l : List B). f x ++ l) (flat-append f xs ys) ∙ sym (append-assoc (f x) (flat f xs) (flat f ys))

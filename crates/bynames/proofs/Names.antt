@@ -8,7 +8,7 @@ use Rattle.rules.specs.Syntax.{Name, Assignment, Statement, assignment, pc, blo
 use Rattle.rules.specs.Meaning.{Mem}
 use Rattle.rules.specs.Listing.{assigns, has, among}
 use Rattle.laws.proofs.Same.{not-both, same-true, eq-same}
-use Rattle.bynames.proofs.Members.{all-at}
+use Rattle.laws.proofs.Members.{all-at}
 use Rattle.bynames.proofs.WellFormed.{Known, Wf}
 
 -- one of a scope assigns a name

@@ -4,9 +4,8 @@ use mathlib.Core.Path.{_≡_, sym}
 use mathlib.Core.List.{List, [], _∷_}
 use Prim.Native.Nat.{ℕ}
 use Rattle.rules.specs.Syntax.{Item}
-use Rattle.rules.specs.Meaning.{SameMeanings, none, more}
+use Rattle.rules.specs.Meaning.{SameMeanings, none, more, All}
 use Rattle.rules.specs.Printing.{printedAll}
-use Rattle.bynames.proofs.Members.{All}
 use Rattle.bynames.proofs.Canon.{canon-meaning}
 use Rattle.bynames.proofs.Reader.{Entry, reading, accepted}
 use Rattle.bynames.proofs.BackLists.{Readable, canons, print-read}

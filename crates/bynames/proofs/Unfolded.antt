@@ -9,7 +9,8 @@ use Rattle.rules.specs.Syntax.{Name, Assignment, Statement, assignment, pc, blo
 use Rattle.rules.specs.Meaning.{Mem, Reach, here, there}
 use Rattle.rules.specs.Listing.{assigns, has, among, unfolded}
 use Rattle.laws.proofs.Same.{same-true}
-use Rattle.bynames.proofs.Members.{Within, all-at, mem-left, mem-right, mem-split, mem-one, mem-flat, flat-mem, flat-cong}
+use Rattle.laws.proofs.Members.{all-at, mem-left, mem-right, mem-split, mem-one, mem-flat, flat-mem, flat-cong}
+use Rattle.bynames.proofs.Members.{Within}
 use Rattle.bynames.proofs.WellFormed.{Wf}
 use Rattle.bynames.proofs.Names.{member-has, differs, own-name, known-in}
 

@@ -10,7 +10,7 @@ use Rattle.rules.specs.Bytes.{byte, nameByte, patternByte}
 use Rattle.rules.specs.Instructions.{arityOf}
 use Rattle.rules.specs.Syntax.{Name, Typing, untyped, typed, Operand, value, constant, RightSide, var, block, phi, reservedinst, reservedconst, instruction, Attribute, knownBits, powerOfTwo, negative, nonNegative, nonZero, hasExternalUses, signBits, range, RootAttribute, demandedBits, harvestedFromUse, Assignment, Statement, assignment, pc, blockpc, Closing, inferResult, cand, infer, result, Item, scope, refers, roots}
 use Rattle.rules.specs.Listing.{assigns, has, among}
-use Rattle.bynames.proofs.Members.{All}
+use Rattle.rules.specs.Meaning.{All}
 
 -- ---- what each part is by itself
 abbrev pub Each : (ℕ → Bool) → List ℕ → Type 0

@@ -18,24 +18,26 @@ use Rattle.rules.specs.Syntax.{flat}
 use Rattle.rules.specs.View.{each, along, statementOf, itemOf}
 use Rattle.rules.specs.WellFormed.{Counts, consecutive, wellFormed, tablesOk, tableOk, countFits, rowsOwned, statementsOwned, operandsOwned, operandSpans, kindsOk, kindOk, middleOk, itemsOk, itemOk, statementOk}
 use Rattle.rules.specs.WellFormed as formed
+use Rattle.rules.specs.Meaning.{All}
 use Rattle.laws.proofs.Same.{by-cond}
 use Rattle.laws.proofs.Tests.{and-left, and-right}
+use Rattle.laws.proofs.Members.{all-map, mem-left, mem-flat}
+use Rattle.laws.proofs.Consecutive.{Inside, consecutive-inside}
 use Rattle.listing.specs.Listing.{Marks, marked, listing, none}
-use Rattle.listing.specs.References.{All, references, refers, Sound}
+use Rattle.listing.specs.References.{references, refers, Sound}
 use Rattle.listing.specs.Roots.{firstRoots, secondRoots}
 use Rattle.listing.specs.Work.{most}
-use Rattle.listing.proofs.Members.{all-map, mem-left, mem-flat}
 use Rattle.byrows.proofs.Names.{Assigns}
 use Rattle.byrows.proofs.Views.{assigning}
 use Rattle.byrows.proofs.Items.{Whole, before-rows, between-rows}
-use Rattle.byrows.proofs.Spans.{every-each, mem-each, Inside, consecutive-inside, Owner, owner, owned-most, consecutive-first, consecutive-next}
+use Rattle.byrows.proofs.Spans.{every-each, mem-each, Owner, owner, owned-most, consecutive-first, consecutive-next}
 use Rattle.byrows.proofs.FormedRows.{Refers, all-refer, row-earlier}
 use Rattle.byrows.proofs.FormedItems.{whole, row-known}
 use Rattle.listing.proofs.Steps.{refers-earlier}
 use Rattle.listing.proofs.Walks.{AgreeFrom, marked-past, listing-own}
 
 -- ---- counts
-count-rows : (k n m : ℕ) → n ≤ min 65536 (m / k) → n * k ≤ m
+pub count-rows : (k n m : ℕ) → n ≤ min 65536 (m / k) → n * k ≤ m
 count-rows k n m h =
     let up : n * k ≤ m / k * k = mul-le-mul-right k (omega arith) in
     let low : m / k * k + m % k ≡ m = div-add-mod' m k in

@@ -12,12 +12,13 @@ use Rattle.rules.specs.declared.Item.{Item}
 use Rattle.rules.specs.Rows.{inferResult, candidate, leftHandSide, nameAt, statementAt}
 use Rattle.rules.specs.WellFormed.{long, middleOk, itemOk, inferOk, infers, closingOk, closingArity, statementsOk, statementOk, operandsOk}
 use Rattle.rules.specs.WellFormed as formed
+use Rattle.rules.specs.Meaning.{All}
 use Rattle.laws.proofs.Cases.{by-cases}
 use Rattle.laws.proofs.Same.{by-cond}
 use Rattle.laws.proofs.Tests.{and-left, and-right, cond-true, cond-false}
-use Rattle.listing.specs.References.{All, named}
+use Rattle.laws.proofs.Members.{all-map}
+use Rattle.listing.specs.References.{named}
 use Rattle.listing.specs.Roots.{firstRoots, secondRoots}
-use Rattle.listing.proofs.Members.{all-map}
 use Rattle.byrows.proofs.Names.{Assigns}
 use Rattle.byrows.proofs.Views.{assigning}
 use Rattle.byrows.proofs.Items.{Whole}

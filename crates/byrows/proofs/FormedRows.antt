@@ -16,11 +16,12 @@ use Rattle.rules.specs.Keywords as keyword
 use Rattle.rules.specs.Rows.{_upTo_, instructionCode, keywordCode, valueCode, nameAt, statementAt, operandAt}
 use Rattle.rules.specs.WellFormed.{among, long, statementOk, nameOk, newName, isAssignment, isInstruction, blockOk, hasBlock, refersTo, refersToBlock, operandsFit, operandsOk, operandOk, valueOk, arity}
 use Rattle.rules.specs.WellFormed as formed
+use Rattle.rules.specs.Meaning.{All}
 use Rattle.laws.proofs.Cases.{by-cases}
 use Rattle.laws.proofs.Same.{eq-same}
 use Rattle.laws.proofs.Tests.{and-left, and-right, cond-true, cond-false}
-use Rattle.listing.specs.References.{All, named, size, references, refers}
-use Rattle.listing.proofs.Members.{all-map, all-append}
+use Rattle.laws.proofs.Members.{all-map, all-append}
+use Rattle.listing.specs.References.{named, size, references, refers}
 use Rattle.byrows.proofs.Views.{assigning, isCondition, isBare, Fit}
 use Rattle.byrows.proofs.Spans.{every-along}
 

@@ -14,10 +14,11 @@ use Rattle.rules.specs.Rows.{_upTo_, inferResult, candidate, leftHandSide, name
 use Rattle.rules.specs.Syntax as syntax
 use Rattle.rules.specs.Syntax.{onto, scope, ofOperand}
 use Rattle.rules.specs.View.{each, along, operandOf, rootAttributeOf, statementOf, asClosing, asItem}
+use Rattle.rules.specs.Meaning.{All}
 use Rattle.laws.proofs.Cases.{by-cases}
 use Rattle.laws.proofs.Tests.{cond-true, cond-false}
 use Rattle.listing.specs.Listing.{Marks, marked, listing}
-use Rattle.listing.specs.References.{All, named, refers, Sound}
+use Rattle.listing.specs.References.{named, refers, Sound}
 use Rattle.listing.specs.Roots.{firstRoots, secondRoots}
 use Rattle.listing.proofs.Steps.{refers-earlier}
 use Rattle.byrows.proofs.Names.{Says, Assigns, scopeOf, listing-says, listing-alike}

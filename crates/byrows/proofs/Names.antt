@@ -9,14 +9,13 @@ use native.Mathlib.Nat.{not-suc-le-zero}
 use native.Mathlib.Decide.{ℕ-discrete}
 use native.Mathlib.Omega.{arith}
 use Rattle.rules.specs.Bytes.{same}
-use Rattle.rules.specs.Meaning.{Mem}
+use Rattle.rules.specs.Meaning.{Mem, All}
 use Rattle.rules.specs.Syntax.{Name, Statement, flat, onto, refers}
 use Rattle.rules.specs.Listing as names
 use Rattle.laws.proofs.Cases.{by-cases}
 use Rattle.laws.proofs.Same.{same-refl, ne-same}
-use Rattle.listing.specs.References.{All}
+use Rattle.laws.proofs.Members.{all-at, all-of, flat-mem, flat-cong}
 use Rattle.listing.specs.Listing.{Marks, mark, marked, unfolded, firsts, listing}
-use Rattle.listing.proofs.Members.{all-at, all-of, flat-mem, flat-cong}
 use Rattle.listing.proofs.Marking.{mark-same, mark-other, firsts-old, firsts-new, firsts-only}
 use Rattle.listing.proofs.Unfolding.{unfolded-cases, below}
 use Rattle.byrows.proofs.Maps.{map-join, map-flat, flat-map}

@@ -1,15 +1,14 @@
 -- Rows that are owned one behind the other: where a span lies, who owns a row, and how many rows there are in all.
 -- Assumes nothing.
 use Prim.Native.Nat.{ℕ, zero, suc, _+_, _-_, _≤_, _<_}
-use mathlib.Core.Path.{_≡_, sym, ap, _∙_, subst}
+use mathlib.Core.Path.{_≡_, sym, ap, _∙_}
 use mathlib.Core.Logic.{inl, inr}
-use mathlib.Core.Bool.{Bool, true, _&&_}
+use mathlib.Core.Bool.{Bool, true}
 use mathlib.Core.List.{List, [], _∷_, _++_}
 use native.Mathlib.Decide.{decLt, ℕ-discrete}
 use native.Mathlib.Numerals.{add-one}
 use native.Mathlib.Omega.{arith}
-use lib.Dec.{eqb, leb}
-use borrow.Author.Tests.{eqb-true, leb-true}
+use borrow.Author.Tests.{eqb-true}
 use Rattle.rules.specs.declared.Span.{Span}
 use Rattle.rules.specs.Meaning.{Mem}
 use Rattle.rules.specs.Rows.{itemAt, statementAt}
@@ -17,6 +16,7 @@ use Rattle.rules.specs.Syntax.{flat}
 use Rattle.rules.specs.View.{each, along}
 use Rattle.rules.specs.WellFormed.{every, long, consecutive, operandSpans}
 use Rattle.laws.proofs.Tests.{and-left, and-right}
+use Rattle.laws.proofs.Consecutive.{first-at, past-after, then}
 use Rattle.listing.specs.References.{size, owned}
 
 -- ---- a test of all rows says something of each
@@ -41,39 +41,6 @@ mem-each f (suc n) a k l h = at (ℕ-discrete k a) (mem-each f n (a + 1) k)
     at (no q) g = inr (g (omega arith) (omega arith))
 
 -- ---- consecutive spans
-pub record Inside (at past : ℕ) (s : Span) : Type 0 where
-  pub low : at ≤ s .first
-  pub up : s .first ≤ s .past
-  pub high : s .past ≤ past
-
-module _ (at past : ℕ) (s : Span) (l : List Span) (e : consecutive at past (s ∷ l) ≡ true) where
-  pub first-at : s .first ≡ at
-  first-at = eqb-true (s .first) at (and-left (eqb (s .first) at) (leb at (s .past) && consecutive (s .past) past l) e)
-
-  others : (leb at (s .past) && consecutive (s .past) past l) ≡ true
-  others = and-right (eqb (s .first) at) (leb at (s .past) && consecutive (s .past) past l) e
-
-  pub past-after : at ≤ s .past
-  past-after = leb-true at (s .past) (and-left (leb at (s .past)) (consecutive (s .past) past l) others)
-
-  pub then : consecutive (s .past) past l ≡ true
-  then = and-right (leb at (s .past)) (consecutive (s .past) past l) others
-
-consecutive-low : (l : List Span) (at past : ℕ) → consecutive at past l ≡ true → at ≤ past
-consecutive-low [] at past e = let q : at ≡ past = eqb-true at past e in omega arith
-consecutive-low (s ∷ l) at past e = omega (arith, past-after at past s l e, consecutive-low l (s .past) past (then at past s l e))
-
-pub consecutive-inside : (l : List Span) (at past : ℕ) → consecutive at past l ≡ true → (x : Span) → Mem x l → Inside at past x
-consecutive-inside [] at past e x m = absurd m
-consecutive-inside (s ∷ l) at past e x (inl q) =
-    let f = first-at at past s l e in
-    let g = past-after at past s l e in
-    let h = consecutive-low l (s .past) past (then at past s l e) in
-    subst (Inside at past) (sym q) (record { low = omega arith; up = omega arith; high = omega arith })
-consecutive-inside (s ∷ l) at past e x (inr m) =
-    let i = consecutive-inside l (s .past) past (then at past s l e) x m in
-    record { low = omega (arith, past-after at past s l e, i .low); up = i .up; high = i .high }
-
 -- the first begins where they all do, and each other where the one before it ends
 pub consecutive-first : (g : ℕ → Span) (n a at past : ℕ) → consecutive at past (each g a n) ≡ true → 0 < n → g a .first ≡ at
 consecutive-first g zero a at past e h = absurd (let z : ⊥ = omega arith in z)

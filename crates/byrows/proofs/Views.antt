@@ -16,9 +16,11 @@ use Rattle.rules.specs.Syntax as syntax
 use Rattle.rules.specs.Syntax.{flat, ofOperand, ofSide, value, constant, assignment, pc, blockpc}
 use Rattle.rules.specs.View.{each, along, typingOf, asOperand, operandOf, attributeOf, asSide, asStatement, statementOf}
 use Rattle.rules.specs.WellFormed.{hasBlock}
+use Rattle.rules.specs.Meaning.{All}
 use Rattle.laws.proofs.Cases.{by-cases}
 use Rattle.laws.proofs.Tests.{cond-true, cond-false}
-use Rattle.listing.specs.References.{All, named, size, references, refers}
+use Rattle.listing.specs.References.{named, size, references, refers}
+use Rattle.listing.proofs.Marking.{or-true}
 use Rattle.byrows.proofs.Names.{Says}
 
 -- ---- codes
@@ -31,10 +33,6 @@ isBare c = eqb c (keywordCode keyword.var) || (eqb c (keywordCode keyword.block)
 
 abbrev pub assigning : List ℕ → ℕ → Bool
 assigning S i = not (isCondition (statementAt S i .code))
-
-or-last : (a : Bool) {b : Bool} → b ≡ true → (a || b) ≡ true
-or-last true e = refl
-or-last false e = e
 
 or-first : {a : Bool} (b : Bool) → a ≡ true → (a || b) ≡ true
 or-first b e = ap (λ (c : Bool). c || b) e
@@ -118,13 +116,13 @@ module _ (text S O A : List ℕ) (i : ℕ) where
   side-names bare nb =
       by-cases (is keyword.var) (λ e. ap ofSide (cond-true _ syntax.var after-var e) ∙ nothing keyword.var e refl (or-first _ e))
       (λ e1. ap ofSide (cond-false _ syntax.var after-var e1)
-      ∙ by-cases (is keyword.block) (λ e. ap ofSide (cond-true _ (syntax.block (row .number)) after-block e) ∙ nothing keyword.block e refl (or-last (is keyword.var) (or-first _ e)))
+      ∙ by-cases (is keyword.block) (λ e. ap ofSide (cond-true _ (syntax.block (row .number)) after-block e) ∙ nothing keyword.block e refl (or-true (is keyword.var) (or-first _ e)))
       (λ e2. ap ofSide (cond-false _ (syntax.block (row .number)) after-block e2)
       ∙ by-cases (is keyword.phi) (λ e. ap ofSide (cond-true _ phi after-phi e) ∙ ap (λ (l : List syntax.Name). name (row .block) ∷ l) spans-names ∙ ap (map name) (sym (with-block (or-first _ e))))
       (λ e3. ap ofSide (cond-false _ phi after-phi e3)
-      ∙ by-cases (is keyword.reservedinst) (λ e. ap ofSide (cond-true _ syntax.reservedinst after-inst e) ∙ nothing keyword.reservedinst e refl (or-last (is keyword.var) (or-last (is keyword.block) (or-first _ e))))
+      ∙ by-cases (is keyword.reservedinst) (λ e. ap ofSide (cond-true _ syntax.reservedinst after-inst e) ∙ nothing keyword.reservedinst e refl (or-true (is keyword.var) (or-true (is keyword.block) (or-first _ e))))
       (λ e4. ap ofSide (cond-false _ syntax.reservedinst after-inst e4)
-      ∙ by-cases (is keyword.reservedconst) (λ e. ap ofSide (cond-true _ syntax.reservedconst instruction e) ∙ nothing keyword.reservedconst e refl (or-last (is keyword.var) (or-last (is keyword.block) (or-last (is keyword.reservedinst) e))))
+      ∙ by-cases (is keyword.reservedconst) (λ e. ap ofSide (cond-true _ syntax.reservedconst instruction e) ∙ nothing keyword.reservedconst e refl (or-true (is keyword.var) (or-true (is keyword.block) (or-true (is keyword.reservedinst) e))))
       (λ e5. ap ofSide (cond-false _ syntax.reservedconst instruction e5) ∙ spans-names ∙ ap (map name) (sym (no-block (or-none e3 nb))))))))
     where
       instruction : syntax.RightSide
@@ -184,7 +182,7 @@ module _ (text S O A : List ℕ) (i : ℕ) where
       (λ e. ap syntax.refers (is-pc e) ∙ pair-names (f .two (or-first _ e)) ∙ ap (map name) (sym (no-block (takes keyword.pc false e refl))))
       (λ e.
       by-cases (is keyword.blockpc)
-      (λ g. ap syntax.refers (is-blockpc e g) ∙ ap (λ (l : List syntax.Name). name (row .block) ∷ l) (pair-names (f .two (or-last (is keyword.pc) g))) ∙ ap (map name) (sym (with-block (takes keyword.blockpc true g refl))))
+      (λ g. ap syntax.refers (is-blockpc e g) ∙ ap (λ (l : List syntax.Name). name (row .block) ∷ l) (pair-names (f .two (or-true (is keyword.pc) g))) ∙ ap (map name) (sym (with-block (takes keyword.blockpc true g refl))))
       (λ g. ap syntax.refers (is-assignment e g) ∙ side-names (f .bare) g))
 
   -- ---- the row says its statement
@@ -195,7 +193,7 @@ module _ (text S O A : List ℕ) (i : ℕ) where
       (λ e. ap (names.assigns n) (is-pc e) ∙ sym (ap (λ (b : Bool). not b && same (lettersOf text (row .name)) n) (or-first (is keyword.blockpc) e)))
       (λ e.
       by-cases (is keyword.blockpc)
-      (λ g. ap (names.assigns n) (is-blockpc e g) ∙ sym (ap (λ (b : Bool). not b && same (lettersOf text (row .name)) n) (or-last (is keyword.pc) g)))
+      (λ g. ap (names.assigns n) (is-blockpc e g) ∙ sym (ap (λ (b : Bool). not b && same (lettersOf text (row .name)) n) (or-true (is keyword.pc) g)))
       (λ g. ap (names.assigns n) (is-assignment e g) ∙ sym (ap (λ (b : Bool). not b && same (lettersOf text (row .name)) n) (or-none e g))))
 
   no-condition : assigning S i ≡ true → (is keyword.pc ≡ false) × (is keyword.blockpc ≡ false)

@@ -12,9 +12,10 @@ use Rattle.rules.specs.declared.Answer.the-variants as answer
 use Rattle.rules.specs.Syntax.{Item}
 use Rattle.rules.specs.View.{itemsOf}
 use Rattle.rules.specs.World.{Tables}
-use Rattle.rules.specs.Answers.{lent, Outcome, accepted, refusal, answerOf, Reads, reading}
+use Rattle.rules.specs.Answers.{lent, refusal, answerOf, Reads, reading}
 use Rattle.simulation.proofs.Said.{itemsIn, AsManyRows}
 use Rattle.simulation.proofs.Left.{left-say}
+use Rattle.simulation.proofs.Calls.{same-tables}
 use Rattle.grammar.proofs.Grammar.{Sentence}
 use Rattle.grammar.proofs.Accepts.{accepted-sentence, Accepts, sentence-accepted, accepted-or-seven}
 
@@ -26,9 +27,6 @@ pub record Answers (text : List ℕ) (r : Answer) (I′ S′ O′ A′ : List �
   pub attributes : ℕ
   pub answers : r ≡ answer.Read items statements operands attributes
   pub says : itemsOf text I′ S′ O′ A′ items ≡ xs
-
-same-tables : {o : Outcome} (t u : Tables) → o ≡ accepted t → o ≡ accepted u → t ≡ u
-same-tables t u p q = cc
 
 module _ (e : Entry) (text I S O A : List ℕ) (r : Answer) (I′ S′ O′ A′ : List ℕ) (reads : Reads e text I S O A r I′ S′ O′ A′) where
   -- whatever is lent

@@ -1,23 +1,24 @@
 -- What the grammar says, the reader by names takes: types, operands and attributes. What may follow each is told by the token behind it.
 -- Assumes nothing.
 use mathlib.Core.Path.{_≡_, refl, sym, ap, _∙_, subst}
-use mathlib.Core.Bool.{Bool, false}
+use mathlib.Core.Bool.{false}
 use mathlib.Core.List.{List, [], _∷_}
 use Prim.Native.Nat.{ℕ, zero, suc, _≤_, _<_}
 use native.Mathlib.Omega.{arith}
 use lib.Dec.{eqb}
 use lib.ListN.{length, length-append}
 use borrow.Author.Tests.{eq-eqb}
-use Rattle.rules.specs.Bytes.{count, same}
+use Rattle.rules.specs.Bytes.{same}
 use Rattle.rules.specs.Integers.{number, fits, integer}
 use Rattle.rules.specs.Tokens as T
 use Rattle.rules.specs.Syntax as syntax
-use Rattle.bynames.proofs.WellFormed.{Each, bitByte}
+use Rattle.bynames.proofs.WellFormed.{bitByte}
 use Rattle.bynames.proofs.Tokens.{Next, end, bad, found, token}
 use Rattle.bynames.proofs.Reader as R
 use Rattle.bynames.proofs.Reader.{Res, go, P, at}
 use Rattle.bynames.proofs.Moves.{Some}
 use Rattle.bynames.proofs.Steps.{step, before, looks, demands, expects}
+use Rattle.bynames.proofs.BackAttributes.{each-count}
 use Rattle.grammar.proofs.Grammar.{Token, ident, valname, knownBits, int, colon, openParen, closeParen, kindOf, Scope, Typing, no-type, a-type, Operand, a-value, a-constant, Further, no-further, one-further, Operands, no-operands, some-operands, AttributeInner, known-bits, power-of-two, is-negative, non-negative, non-zero, has-external-uses, sign-bits, in-range, RootAttributeInner, demanded-bits, harvested-from-use, Attributes, no-attributes, one-attribute}
 use Rattle.grammar.proofs.Leads.{First, Leads, here, over, leads-cons, leads-split, leads-long}
 
@@ -104,10 +105,6 @@ module _ (s : Scope) where
       step _ (operand-complete d (q .left) (further-ends r (q .right) h)) (step _ (further-complete r (q .right) h) refl)
 
 -- ---- an attribute: '(', what stands between, and ')'
-each-count : (p : ℕ → Bool) (w : List ℕ) → Each p w → count p w ≡ length w
-each-count p [] a = refl
-each-count p (b ∷ w) a = rw (a .0) (ap suc (each-count p w (a .1)))
-
 module _ (s : Scope) where
   closed-complete : {A : Type 0} (a : A) {k : Next} (g : First closeParen k) → R.closed a (before s k) ≡ go a (at s (g .behind))
   closed-complete a g = step _ (expects s (spelt g)) refl

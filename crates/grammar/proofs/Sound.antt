@@ -1,7 +1,7 @@
 -- What the reader by names takes, the grammar says: token helpers, types, operands and attributes.
 -- Assumes nothing.
 use mathlib.Core.Path.{_≡_, refl, sym, ap, _∙_, subst}
-use mathlib.Core.Bool.{Bool, true, false, cond, false≢true}
+use mathlib.Core.Bool.{true, false, false≢true}
 use mathlib.Core.List.{List, [], _∷_, _++_}
 use Prim.Native.Nat.{ℕ, zero, suc}
 use lib.Dec.{eqb}
@@ -17,8 +17,8 @@ use Rattle.laws.proofs.Same.{same-true}
 use Rattle.bynames.proofs.WellFormed.{sideOf, isBlock, blockSize}
 use Rattle.bynames.proofs.Tokens.{Next, end, bad, found, token}
 use Rattle.bynames.proofs.Reader as R
-use Rattle.bynames.proofs.Reader.{State, Res, go, stop, P, bind}
-use Rattle.bynames.proofs.AcceptedParts.{Ok, seq, either}
+use Rattle.bynames.proofs.Reader.{State, go, stop, P, bind}
+use Rattle.bynames.proofs.AcceptedParts.{Ok, seq, either, choice}
 use Rattle.grammar.proofs.Grammar.{Token, ident, valname, int, comma, colon, equals, openParen, closeParen, openBracket, Written, Scope, Typing, no-type, a-type, Operand, a-value, a-constant, Further, no-further, one-further, Operands, no-operands, some-operands}
 use Rattle.grammar.proofs.Leads.{Leads, here, over, leads-join}
 
@@ -126,10 +126,6 @@ field-sound width s w i =
     (λ l v g. read-sound (λ l. fits width (integer l)) s (w .next) l v g (fits width (integer l)) refl)
 
 -- ---- names
-choice : {A : Type 0} (Q : A → State → Type 0) (b : Bool) (x y : Res A) → (b ≡ true → Ok Q x) → (b ≡ false → Ok Q y) → Ok Q (cond b x y)
-choice Q true x y h k = h refl
-choice Q false x y h k = k refl
-
 -- a test of the scope takes nothing
 pub record Tested (s : Scope) (n : Next) (C : Type 0) (w : State) : Type 0 where
   pub scope : w .scope ≡ s

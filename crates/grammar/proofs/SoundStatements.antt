@@ -1,21 +1,20 @@
 -- What the reader by names takes, the grammar says: right sides and statements.
 -- Assumes nothing.
-use mathlib.Core.Path.{_≡_, refl, ap, _∙_, sym, subst}
-use mathlib.Core.Bool.{Bool, true, false, cond}
+use mathlib.Core.Path.{_≡_, ap, _∙_, sym, subst}
+use mathlib.Core.Bool.{true, false}
 use mathlib.Core.List.{List, [], _∷_, _++_}
 use Prim.Native.Nat.{ℕ, zero, suc, _<_}
-use native.Mathlib.Nat.{le-of-suc-le-suc, not-suc-le-zero}
 use lib.Dec.{eqb, ltb}
-use lib.ListN.{length, getD}
 use borrow.Author.Tests.{ltb-true}
 use Rattle.rules.specs.Bytes.{bytes, same}
 use Rattle.rules.specs.Integers.{fits, integer}
-use Rattle.rules.specs.Instructions.{Instruction, instructions, names, placeOf, instructionOf, instructionName, arityOf, _takes_}
+use Rattle.rules.specs.Instructions.{instructionOf, instructionName, arityOf}
 use Rattle.rules.specs.Tokens as T
 use Rattle.rules.specs.Syntax as syntax
 use Rattle.rules.specs.Syntax.{onto}
 use Rattle.rules.specs.Listing.{has}
 use Rattle.laws.proofs.Same.{same-true}
+use Rattle.laws.proofs.Names.{instruction-named}
 use Rattle.bynames.proofs.WellFormed.{sideOf}
 use Rattle.bynames.proofs.Tokens.{Next}
 use Rattle.bynames.proofs.Reader as R
@@ -25,20 +24,6 @@ use Rattle.grammar.proofs.Grammar.{ident, valname, int, equals, word, S
 use Rattle.grammar.proofs.Leads.{Leads, here, leads-join}
 use Rattle.grammar.proofs.Sound.{Takes, Stays, Took, took, is-ident, is-valname, is-int, is-equals, seq-look, expect-sound, keyword-sound, Number, field-sound, Tested, tested, fresh-sound, blocked-sound, typing-sound, operand-sound, Furthers, further-sound, OperandsOf, operands-sound}
 use Rattle.grammar.proofs.SoundAttributes.{attributes-sound, attribute-sound}
-
--- ---- a word that names an instruction is its name
-place-name : (w : List ℕ) (l : List Instruction) (d : Instruction) → placeOf w (names l) < length l → getD l (placeOf w (names l)) d .name ≡ w
-place-name w [] d h = absurd (not-suc-le-zero h)
-place-name w (i ∷ l) d h = by (same w (i .name)) refl h (place-name w l d)
-  where
-    by : (b : Bool) → same w (i .name) ≡ b → cond b 0 (suc (placeOf w (names l))) < suc (length l) → (placeOf w (names l) < length l → getD l (placeOf w (names l)) d .name ≡ w)
-        → getD (i ∷ l) (cond b 0 (suc (placeOf w (names l)))) d .name ≡ w
-    by true e h ih = sym (same-true w (i .name) e)
-    by false e h ih = ih (le-of-suc-le-suc h)
-
-instruction-name : (w : List ℕ) → instructionOf w < 59 → instructionName (instructionOf w) ≡ w
-unfolding instructionOf instructionName
-instruction-name w h = place-name w instructions ("" takes 0) h
 
 -- ---- right sides
 module _ (s : Scope) where
@@ -83,7 +68,7 @@ module _ (s : Scope) where
       (λ o w₁ g₁. record {
         scope = g₁ .scope;
         tokens = ident (instructionName (instructionOf l)) ∷ g₁ .tokens;
-        leads = subst (λ (z : List ℕ). Leads n (ident z ∷ g₁ .tokens) (w₁ .next)) (sym (instruction-name l h)) (took (ident l) is-ident g (g₁ .leads));
+        leads = subst (λ (z : List ℕ). Leads n (ident z ∷ g₁ .tokens) (w₁ .next)) (sym (instruction-named l h)) (took (ident l) is-ident g (g₁ .leads));
         rule = an-instruction h (g₁ .rule .1) (g₁ .rule .0);
       })
 

@@ -14,3 +14,6 @@ pub mod Ranges
 pub mod Cases
 pub mod Same
 pub mod Places
+pub mod Members
+pub mod Consecutive
+pub mod Opposite

@@ -8,9 +8,10 @@ use lib.Dec.{lit≤}
 use lib.ListN.{length}
 use Rattle.rules.specs.Rows.{operandLength, statementAt, operandAt}
 use Rattle.rules.specs.WellFormed.{hasBlock}
+use Rattle.rules.specs.Meaning.{All}
 use Rattle.listing.specs.Listing.{none, marked, listing}
 use Rattle.listing.specs.Machine.{trace, run}
-use Rattle.listing.specs.References.{All, size, references, refers, Sound}
+use Rattle.listing.specs.References.{size, references, refers, Sound}
 
 -- %0 = block 2, %1 = var, %2 = phi %0, %1, 7, %3 = add %2, %1, pc %3 %1
 abbrev statements : List ℕ

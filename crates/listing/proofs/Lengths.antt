@@ -10,11 +10,10 @@ use native.Mathlib.Omega.{arith}
 use lib.Dec.{eqb}
 use lib.ListN.{length}
 use borrow.Author.Tests.{eqb-true, eqb-false}
-use Rattle.rules.specs.Meaning.{Mem}
+use Rattle.rules.specs.Meaning.{Mem, All}
 use Rattle.laws.proofs.Same.{by-cond}
+use Rattle.laws.proofs.Members.{all-at, all-of}
 use Rattle.listing.specs.Listing.{Marks, listing}
-use Rattle.listing.specs.References.{All}
-use Rattle.listing.proofs.Members.{all-at, all-of}
 use Rattle.listing.proofs.Marking.{Distinct}
 use Rattle.listing.proofs.Listings.{listing-once, listing-below}
 

@@ -1,5 +1,4 @@
 -- Laws that belong to no one function. They assume nothing.
-pub mod Members
 pub mod Marking
 pub mod Searches
 pub mod Unfolding

@@ -6,14 +6,13 @@ use mathlib.Core.Bool.{Bool, true, false, cond}
 use mathlib.Core.List.{List, [], _∷_, _++_}
 use Prim.Native.Nat.{ℕ, _<_}
 use native.Mathlib.Omega.{arith}
-use Rattle.rules.specs.Meaning.{Mem}
+use Rattle.rules.specs.Meaning.{Mem, All}
 use Rattle.rules.specs.Syntax.{flat}
 use Rattle.laws.proofs.Cases.{by-cases}
-use Rattle.listing.specs.References.{All}
+use Rattle.laws.proofs.Members.{all-at, all-of, mem-flat, flat-mem, flat-append}
 use Rattle.listing.specs.Listing.{Marks, none, mark, marked, unfolded, firsts, listing}
 use Rattle.listing.specs.Machine.{emit, lists, ended, traces, run}
 use Rattle.listing.specs.Work.{Closed}
-use Rattle.listing.proofs.Members.{all-at, all-of, mem-flat, flat-mem, flat-append}
 use Rattle.listing.proofs.Marking.{marked-keeps, marked-has, marked-only, marked-firsts, firsts-old, firsts-new, firsts-append, firsts-only, firsts-has, firsts-once, Distinct}
 use Rattle.listing.proofs.Searches.{run-traces}
 use Rattle.listing.proofs.Unfolding.{sift, unfolded-below, unfolded-closed, threads-sift, search-sift}

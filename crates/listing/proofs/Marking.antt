@@ -8,10 +8,9 @@ use Prim.Native.Nat.{ℕ}
 use native.Mathlib.Decide.{ℕ-discrete}
 use lib.Dec.{eqb}
 use borrow.Author.Tests.{eq-eqb, ne-eqb}
-use Rattle.rules.specs.Meaning.{Mem}
+use Rattle.rules.specs.Meaning.{Mem, All}
 use Rattle.laws.proofs.Cases.{by-cases}
 use Rattle.laws.proofs.Same.{by-cond, not-both}
-use Rattle.listing.specs.References.{All}
 use Rattle.listing.specs.Listing.{Marks, mark, marked, firsts}
 
 -- ---- one mark
@@ -20,7 +19,7 @@ or-swap true true c = refl
 or-swap true false c = refl
 or-swap false b c = refl
 
-or-true : (a : Bool) {b : Bool} → b ≡ true → (a || b) ≡ true
+pub or-true : (a : Bool) {b : Bool} → b ≡ true → (a || b) ≡ true
 or-true true e = refl
 or-true false e = e
 

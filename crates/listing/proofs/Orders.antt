@@ -7,12 +7,11 @@ use mathlib.Core.List.{List, [], _∷_, _++_}
 use Prim.Native.Nat.{ℕ, zero, suc, _<_}
 use native.Mathlib.Nat.{not-suc-le-zero}
 use native.Mathlib.Omega.{arith}
-use Rattle.rules.specs.Meaning.{Mem}
+use Rattle.rules.specs.Meaning.{Mem, All}
 use Rattle.rules.specs.Syntax.{flat}
 use Rattle.laws.proofs.Same.{by-cond}
-use Rattle.listing.specs.References.{All}
+use Rattle.laws.proofs.Members.{all-of, mem-flat}
 use Rattle.listing.specs.Listing.{Marks, mark, unfolded, firsts}
-use Rattle.listing.proofs.Members.{all-of, mem-flat}
 use Rattle.listing.proofs.Marking.{mark-keeps, mark-same, mark-only}
 use Rattle.listing.proofs.Unfolding.{unfolded-self, unfolded-cases, unfolded-under, below}
 

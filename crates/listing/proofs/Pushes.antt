@@ -14,8 +14,9 @@ use lib.Seq.{take-set-le}
 use borrow.Author.Tests.{eq-eqb, ne-eqb}
 use Rattle.rules.specs.Rows.{valueCode, operandLength, statementLength, operandAt, statementAt}
 use Rattle.rules.specs.WellFormed.{hasBlock}
+use Rattle.rules.specs.Meaning.{All}
 use Rattle.laws.proofs.Cases.{by-cases}
-use Rattle.listing.specs.References.{All, named, size, references}
+use Rattle.listing.specs.References.{named, size, references}
 use Rattle.listing.specs.Machine.{Entry, trace, traces}
 use Rattle.listing.specs.Work.{stackOf, Pushed}
 use Rattle.listing.proofs.Words.{entry-trace, stack-push}

@@ -5,10 +5,10 @@ use mathlib.Core.Bool.{Bool, true, false, cond}
 use mathlib.Core.List.{List, [], _∷_, _++_}
 use Prim.Native.Nat.{ℕ, zero, suc, _<_}
 use native.Mathlib.Nat.{not-suc-le-zero, le-of-suc-le-suc}
-use Rattle.listing.specs.References.{All}
+use Rattle.rules.specs.Meaning.{All}
+use Rattle.laws.proofs.Members.{all-below}
 use Rattle.listing.specs.Listing.{Marks, mark}
 use Rattle.listing.specs.Machine.{Run, emit, Entry, trace, finished, traces, thread, depthFirst, run}
-use Rattle.listing.proofs.Members.{all-below}
 
 pub traces-append : (xs ys : List ℕ) (st : List Entry) → traces (xs ++ ys) st ≡ traces xs (traces ys st)
 traces-append [] ys st = refl

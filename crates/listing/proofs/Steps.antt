@@ -13,12 +13,13 @@ use lib.Dec.{eqb, ltb}
 use lib.ListN.{length, getD, set, length-set}
 use lib.Seq.{getD-set-same}
 use borrow.Author.Tests.{eq-eqb, ne-eqb, lt-ltb, le-ltb}
+use Rattle.rules.specs.Meaning.{All}
 use Rattle.laws.proofs.Same.{by-cond}
+use Rattle.laws.proofs.Members.{all-below}
 use Rattle.listing.specs.Listing.{Marks, none, mark, listing}
-use Rattle.listing.specs.References.{All, size, owned, references, refers, Sound}
+use Rattle.listing.specs.References.{size, owned, references, refers, Sound}
 use Rattle.listing.specs.Machine.{Run, emit, lists, Entry, trace, finished, traces, run}
 use Rattle.listing.specs.Work.{hasMark, withMark, marksOf, entryOf, stackOf, rowOf, Pushed, budget, most, toCome, left, Closed, Ready, Begun, Traced, Listed, Ended}
-use Rattle.listing.proofs.Members.{all-below}
 use Rattle.listing.proofs.Marking.{mark-same, mark-other}
 use Rattle.listing.proofs.Searches.{run-old, run-new}
 use Rattle.listing.proofs.Listings.{closed-none, closed-listing, run-listing}

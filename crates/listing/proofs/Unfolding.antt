@@ -7,12 +7,11 @@ use mathlib.Core.List.{List, [], _∷_, _++_}
 use Prim.Native.Nat.{ℕ, zero, suc, _≤_, _<_}
 use native.Mathlib.Nat.{not-suc-le-zero, le-of-suc-le-suc}
 use native.Mathlib.Omega.{arith}
-use Rattle.rules.specs.Meaning.{Mem}
+use Rattle.rules.specs.Meaning.{Mem, All}
 use Rattle.rules.specs.Syntax.{flat}
-use Rattle.listing.specs.References.{All}
+use Rattle.laws.proofs.Members.{all-at, all-of, mem-left, mem-right, mem-split, mem-one, mem-flat, flat-mem}
 use Rattle.listing.specs.Listing.{Marks, mark, marked, unfolded}
 use Rattle.listing.specs.Machine.{Run, emit, thread, depthFirst}
-use Rattle.listing.proofs.Members.{all-at, all-of, mem-left, mem-right, mem-split, mem-one, mem-flat, flat-mem}
 use Rattle.listing.proofs.Marking.{mark-other, mark-keeps, mark-swap, mark-again, marked-keeps, marked-has, marked-only}
 
 -- ---- the first occurrences of those with no mark are listed, then k

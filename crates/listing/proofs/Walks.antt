@@ -8,13 +8,13 @@ use Prim.Native.Nat.{ℕ, zero, suc, _≤_, _<_}
 use native.Mathlib.Omega.{arith}
 use lib.Dec.{eqb}
 use lib.ListN.{length}
-use Rattle.rules.specs.Meaning.{Mem}
+use Rattle.rules.specs.Meaning.{Mem, All}
 use Rattle.rules.specs.Syntax.{flat}
+use Rattle.laws.proofs.Members.{all-at, all-of, flat-mem}
 use Rattle.listing.specs.Listing.{Marks, mark, marked, unfolded, listing}
-use Rattle.listing.specs.References.{All, refers, Sound}
+use Rattle.listing.specs.References.{refers, Sound}
 use Rattle.listing.specs.Machine.{Run}
 use Rattle.listing.specs.Work.{marksOf, toCome, Ready, Begun, Listed, Ended}
-use Rattle.listing.proofs.Members.{all-at, all-of, flat-mem}
 use Rattle.listing.proofs.Marking.{mark-other, firsts-agree, firsts-only}
 use Rattle.listing.proofs.Unfolding.{unfolded-cases, unfolded-below, below}
 use Rattle.listing.proofs.Orders.{Ordered, ordered-at}

@@ -6,8 +6,9 @@ use mathlib.Core.Bool.{Bool, true, cond, not, _&&_}
 use mathlib.Core.List.{List, [], _∷_}
 use lib.Dec.{eqb, ltb}
 use lib.ListN.{length, getD, set, take}
+use Rattle.rules.specs.Meaning.{All}
 use Rattle.listing.specs.Listing.{Marks, listing}
-use Rattle.listing.specs.References.{All, size, owned, refers}
+use Rattle.listing.specs.References.{size, owned, refers}
 use Rattle.listing.specs.Machine.{Run, emit, lists, ended, Entry, trace, finished, traces, run}
 use Rattle.listing.specs.declared.Step.{Step}
 use Rattle.listing.specs.declared.Step.the-variants.{Row, Done}

@@ -7,7 +7,8 @@ ghost use Prim.Native.Nat.{_+_, _-_, _*_, _≤_, _<_};
 ghost use lib.ListN.{length};
 ghost use Rattle.rules.specs.Rows.{statementLength, operandLength, statementAt};
 ghost use Rattle.rules.specs.WellFormed.{hasBlock};
-ghost use Rattle.listing.specs.References.{All, named, size, references};
+ghost use Rattle.rules.specs.Meaning.{All};
+ghost use Rattle.listing.specs.References.{named, size, references};
 ghost use Rattle.listing.specs.Work.{Pushed};
 
 // Words of a statement row: the row of its block, the first of its operands, and the one past the last.

@@ -15,11 +15,11 @@ use Rattle.rules.specs.Rows.{itemAt}
 use Rattle.rules.specs.Syntax as syntax
 use Rattle.rules.specs.View.{statementOf, asClosing, asItem, itemOf, itemsOf}
 use Rattle.rules.specs.WellFormed.{Counts, statementsOwned, wellFormed}
+use Rattle.rules.specs.Meaning.{All}
+use Rattle.laws.proofs.Members.{all-map}
 use Rattle.listing.specs.Listing.{none}
-use Rattle.listing.specs.References.{All}
 use Rattle.listing.specs.Roots.{firstRoots, secondRoots}
 use Rattle.listing.specs.Work.{marksOf}
-use Rattle.listing.proofs.Members.{all-map}
 use Rattle.listing.proofs.Steps.{refers-counted, ready-cleared}
 use Rattle.byrows.proofs.Names.{Assigns}
 use Rattle.byrows.proofs.Views.{assigning}

@@ -17,8 +17,9 @@ use Rattle.rules.specs.Syntax.{flat}
 use Rattle.rules.specs.View.{each, along}
 use Rattle.rules.specs.WellFormed.{Counts, shortText, tableOk, consecutive, operandSpans, attributeSpans, statementsOwned, operandsOwned, attributesOwned, kindsOk, tablesOk, rowsOwned, itemsOk, wellFormed}
 use Rattle.laws.proofs.Tests.{and-left, and-right}
-use Rattle.listing.proofs.Members.{mem-left, mem-right, mem-flat}
-use Rattle.byrows.proofs.Spans.{mem-each, Inside, consecutive-inside}
+use Rattle.laws.proofs.Members.{mem-left, mem-right, mem-flat}
+use Rattle.laws.proofs.Consecutive.{Inside, consecutive-inside}
+use Rattle.byrows.proofs.Spans.{mem-each}
 use Rattle.byrows.proofs.Formed.{tables-known, rows-owned, fits-count, operands-owned, owner-of}
 use Rattle.pieces.specs.Bounds.{Few}
 

@@ -13,12 +13,11 @@ use lib.Dec.{eqb, ltb}
 use lib.ListN.{length, getD, take, drop, length-drop, List·getD-append}
 use lib.Seq.{getD-append-add, getD-take, getD-drop, length-take-le}
 use Rattle.rules.specs.declared.Span.{Span}
-use Rattle.rules.specs.Meaning.{Mem}
+use Rattle.rules.specs.Meaning.{Mem, All}
 use Rattle.laws.proofs.Cases.{by-cases}
+use Rattle.laws.proofs.Members.{all-at}
 use Rattle.listing.specs.Listing.{Marks, none, marked}
-use Rattle.listing.specs.References.{All}
 use Rattle.listing.specs.Work.{hasMark, marksOf}
-use Rattle.listing.proofs.Members.{all-at}
 use Rattle.listing.proofs.Marking.{marked-only}
 use Rattle.listing.proofs.Words.{marks-at}
 use Rattle.printer.specs.Contracts.{Within, Cleared}

@@ -7,10 +7,10 @@ use Prim.Native.Nat.{ℕ, zero, suc, _+_, _≤_, _<_}
 use native.Mathlib.Decide.{ℕ-discrete}
 use native.Mathlib.Omega.{arith}
 use lib.ListN.{length}
+use Rattle.rules.specs.Meaning.{All}
 use Rattle.laws.proofs.Cases.{by-cases}
 use Rattle.laws.proofs.Tests.{either-le}
 use Rattle.listing.specs.Listing.{Marks, mark, firsts}
-use Rattle.listing.specs.References.{All}
 use Rattle.listing.proofs.Marking.{mark-same, mark-other, firsts-old, firsts-new}
 
 -- of n rows from a on, how many have no mark

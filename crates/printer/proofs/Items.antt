@@ -1,28 +1,25 @@
 -- Items: the pieces of each, how long they are at most, and that no mark is left.
 -- Assumes nothing.
 use mathlib.Core.Path.{_≡_, refl, sym, ap, _∙_, subst}
-use mathlib.Core.Bool.{Bool, true, false, _&&_}
+use mathlib.Core.Bool.{Bool, true, false}
 use mathlib.Core.List.{List, [], _∷_, _++_, map}
 use Prim.Native.Nat.{ℕ, zero, suc, _+_, _-_, _*_, _^_, _≤_, _<_, min}
 use native.Mathlib.Omega.{arith}
-use borrow.Author.Tests.{eqb-true, leb-true}
 use borrow.Rule.Slice.PartMut.{midOf, putMid}
-use lib.Dec.{eqb, leb}
 use lib.ListN.{length, length-append}
-use Rattle.rules.specs.declared.Span.{Span}
 use Rattle.rules.specs.declared.Item.{Item}
 use Rattle.rules.specs.Out.{joined, Wrote}
 use Rattle.rules.specs.Rows.{itemAt}
 use Rattle.rules.specs.View.{each, statementOf, asClosing}
 use Rattle.rules.specs.WellFormed.{consecutive, statementsOwned}
 use Rattle.rules.specs.Printing.{firstClosing, secondClosing}
+use Rattle.rules.specs.Meaning.{All}
 use Rattle.laws.proofs.Over.{written}
 use Rattle.laws.proofs.Pieces.{start, next, stop}
-use Rattle.laws.proofs.Tests.{and-left, and-right}
+use Rattle.laws.proofs.Consecutive.{first-at, past-after, then, consecutive-le}
+use Rattle.laws.proofs.Members.{all-map, all-append}
 use Rattle.listing.specs.Listing.{Marks, none, marked}
-use Rattle.listing.specs.References.{All}
 use Rattle.listing.specs.Work.{marksOf}
-use Rattle.listing.proofs.Members.{all-map, all-append}
 use Rattle.listing.proofs.Steps.{ready-cleared}
 use Rattle.pieces.proofs.Chains.{Chain, chain-none, chain-whole, chain-as, chain-more, chain-done}
 use Rattle.listing.specs.Roots.{firstRoots, secondRoots}
@@ -131,24 +128,6 @@ module _ (text S O A : List ℕ) (s : ℕ) (r : Item) where
                   };
             }
 
--- spans one behind the other
-module _ (at past : ℕ) (x : Span) (l : List Span) (e : consecutive at past (x ∷ l) ≡ true) where
-  behind-first : (leb at (x .past) && consecutive (x .past) past l) ≡ true
-  behind-first = and-right (eqb (x .first) at) (leb at (x .past) && consecutive (x .past) past l) e
-
-  consecutive-first : x .first ≡ at
-  consecutive-first = eqb-true (x .first) at (and-left (eqb (x .first) at) (leb at (x .past) && consecutive (x .past) past l) e)
-
-  consecutive-up : at ≤ x .past
-  consecutive-up = leb-true at (x .past) (and-left (leb at (x .past)) (consecutive (x .past) past l) behind-first)
-
-  consecutive-rest : consecutive (x .past) past l ≡ true
-  consecutive-rest = and-right (leb at (x .past)) (consecutive (x .past) past l) behind-first
-
-consecutive-le : (at past : ℕ) (l : List Span) → consecutive at past l ≡ true → at ≤ past
-consecutive-le at past [] e = omega (arith, eqb-true at past e)
-consecutive-le at past (x ∷ l) e = omega (arith, consecutive-up at past x l e, consecutive-le (x .past) past l (consecutive-rest at past x l e))
-
 -- n items from i on
 module _ (text I S O A : List ℕ) (s : ℕ) {w : List ℕ} (p : Prepared text S O s w) where
   items-short : (past i n at : ℕ) → consecutive at past (each (λ j. itemAt I j .statements) i n) ≡ true → ((j : ℕ) → i ≤ j → j < i + n → Own S O s (itemAt I j))
@@ -157,14 +136,14 @@ module _ (text I S O A : List ℕ) (s : ℕ) {w : List ℕ} (p : Prepared text S
   items-short past i (suc n) at e own =
       let x = itemAt I i .statements in
       let l = each (λ j. itemAt I j .statements) (i + 1) n in
-      let rest = consecutive-rest at past x l e in
+      let rest = then at past x l e in
       omega (
         arith,
         length-append (itemText text S O A s (itemAt I i)) (joined (each (λ j. itemText text S O A s (itemAt I j)) (i + 1) n)),
         item-short text S O A s (itemAt I i) p (own i (omega arith) (omega arith)),
         items-short past (i + 1) n (x .past) rest (λ j h k. own j (omega arith) (omega arith)),
-        consecutive-first at past x l e,
-        consecutive-up at past x l e,
+        first-at at past x l e,
+        past-after at past x l e,
         consecutive-le (x .past) past l rest,
       )
 

@@ -8,11 +8,11 @@ use native.Mathlib.Omega.{arith}
 use lib.ListN.{length}
 use Rattle.rules.specs.declared.Span.{Span}
 use Rattle.rules.specs.Rows.{_upTo_}
-use Rattle.rules.specs.Meaning.{Mem}
+use Rattle.rules.specs.Meaning.{Mem, All}
 use Rattle.rules.specs.Syntax.{flat}
+use Rattle.laws.proofs.Members.{all-at, all-of, all-map, flat-mem}
 use Rattle.listing.specs.Listing.{Marks, mark, marked, unfolded, firsts, listing}
-use Rattle.listing.specs.References.{All, references, refers, Sound}
-use Rattle.listing.proofs.Members.{all-at, all-of, all-map, all-append, flat-mem}
+use Rattle.listing.specs.References.{references, refers, Sound}
 use Rattle.listing.proofs.Marking.{firsts-only}
 use Rattle.listing.proofs.Orders.{Reach, here, there, unfolded-reach}
 use Rattle.listing.proofs.Listings.{listing-append}

@@ -12,11 +12,12 @@ use lib.ListN.{length}
 use Rattle.rules.specs.declared.Operand.{Operand}
 use Rattle.rules.specs.Out.{joined, Wrote}
 use Rattle.rules.specs.Rows.{operandAt, valueCode}
+use Rattle.rules.specs.Meaning.{All}
 use Rattle.laws.proofs.Over.{nothing, written}
+use Rattle.laws.proofs.Members.{all-left, all-right}
 use Rattle.listing.specs.Listing.{Marks, marked}
-use Rattle.listing.specs.References.{All, named}
+use Rattle.listing.specs.References.{named}
 use Rattle.listing.specs.Work.{marksOf}
-use Rattle.listing.proofs.Members.{all-left, all-right}
 use Rattle.listing.proofs.Marking.{marked-append}
 use Rattle.pieces.proofs.Chains.{Chain, chain-whole}
 use Rattle.printer.specs.Rows.{reached, linesOf}

@@ -10,7 +10,7 @@ use Rattle.rules.specs.Rows.{statementAt}
 use Rattle.rules.specs.Syntax as syntax
 use Rattle.rules.specs.View.{statementOf}
 use Rattle.rules.specs.Printing.{line, lines, firstClosing, secondClosing, laid}
-use Rattle.listing.specs.References.{All}
+use Rattle.rules.specs.Meaning.{All}
 use Rattle.pieces.specs.Bounds.{Few}
 use Rattle.lines.proofs.Tails.{line-tail, lines-tail, first-closing-tail}
 use Rattle.lines.proofs.Lines.{line-short}

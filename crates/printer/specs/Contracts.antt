@@ -10,8 +10,9 @@ use Rattle.rules.specs.declared.Item.{Item}
 use Rattle.rules.specs.Out.{Wrote}
 use Rattle.rules.specs.Rows.{itemAt, statementAt}
 use Rattle.rules.specs.WellFormed.{statementsOwned}
+use Rattle.rules.specs.Meaning.{All}
 use Rattle.listing.specs.Listing.{none, marked}
-use Rattle.listing.specs.References.{All, references, Sound}
+use Rattle.listing.specs.References.{references, Sound}
 use Rattle.listing.specs.Work.{hasMark, marksOf, Ready}
 use Rattle.pieces.specs.Bounds.{Few}
 use Rattle.listing.specs.Roots.{firstRoots, secondRoots}

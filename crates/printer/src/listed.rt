@@ -9,7 +9,8 @@ use rules::code;
 use tables::rows::operand_at;
 ghost use mathlib.Core.List.{[], _∷_};
 ghost use Prim.Native.Nat.{_≤_, _<_};
-ghost use Rattle.listing.specs.References.{All, named};
+ghost use Rattle.rules.specs.Meaning.{All};
+ghost use Rattle.listing.specs.References.{named};
 ghost use Rattle.listing.specs.Roots.{firstRoots, secondRoots};
 ghost use Rattle.printer.specs.Contracts.{Prepared, RowsPrinted};
 

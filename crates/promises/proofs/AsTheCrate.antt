@@ -20,7 +20,7 @@ use Rattle.reading.proofs.Capacity.{Below, NotSeven, Same, room, longer, seven-
 use Rattle.reading.proofs.Fitting.{accepted-fits}
 use Rattle.simulation.proofs.Said.{AsManyRows}
 use Rattle.simulation.proofs.AsManyRows.{never-seven, same-answer}
-use Rattle.simulation.proofs.Calls.{call-never-seven}
+use Rattle.simulation.proofs.Calls.{refused-seven, call-never-seven}
 
 -- words for as many rows of each table as a text has bytes
 abbrev pub rowForEachByte : List ℕ → Lent
@@ -42,11 +42,6 @@ as-many text = record { items = omega arith; statements = omega arith; operands 
 -- an answer that is not 7
 abbrev pub IsNotSeven : Answer → Type 0
 IsNotSeven r = (p : ℕ) → r ≡ answer.Refused 7 p → ⊥
-
-refused-seven : (o : Outcome) (p : ℕ) → answerOf o ≡ answer.Refused 7 p → o ≡ refusal 7 p
-unfolding answerOf
-refused-seven (accepted t) p h = absurd (let z : _≡_ {A = ℕ} 0 1 = cc in omega arith)
-refused-seven (refusal n q) p h = cc
 
 not-seven : {o : Outcome} {r : Answer} → r ≡ answerOf o → IsNotSeven r → NotSeven o
 unfolding answerOf

@@ -2,11 +2,10 @@
 -- `ReadEnd` has the ways in which a read ends, `PrintEnd` those of a print; a name is a part of the text.
 -- That the public calls end, and with what the contracts say, is theirs; that no two answers satisfy these is `Unique` of crate peldarox.
 -- Assumes nothing.
-use Prim.Native.Nat.{ℕ, zero, suc, _+_, _-_, _*_, _/_, _%_, _≤_, _<_, min}
+use Prim.Native.Nat.{ℕ, zero, suc, _+_, _-_, _*_, _≤_, _<_}
 use mathlib.Core.Path.{_≡_, refl, sym, ap, _∙_}
 use mathlib.Core.Bool.{true, false, cond, not, _&&_}
 use mathlib.Core.List.{List, [], _++_}
-use native.Mathlib.Nat.{mul-le-mul-right, div-add-mod'}
 use native.Mathlib.Omega.{arith}
 use borrow.Author.Tests.{eqb-false, leb-true, ltb-true, ltb-false, le-ltb}
 use lib.Dec.{eqb, leb, ltb}
@@ -42,6 +41,7 @@ use Rattle.simulation.proofs.Whole.{accepted-says}
 use Rattle.spacing.proofs.TokenList.{next, onward, nth}
 use Rattle.spacing.proofs.SpacingIsNothing.{SameOutcome, both-accepted, both-at-token, both-at-fault, both-at-end, spacing-is-nothing}
 use Rattle.byrows.proofs.Spans.{every-each, every-along, Owner, owner}
+use Rattle.byrows.proofs.Formed.{count-rows}
 use Rattle.promises.proofs.FirstBad.{FirstBad, first-bad}
 
 -- ---- reads
@@ -136,12 +136,6 @@ outcome-place text o o′ (both-at-end i h k) = (at-end i h, omega arith)
 padded-none : (n : ℕ) → padded n [] ≡ replicate n 0
 unfolding padded
 padded-none n = let z : n - 0 ≡ n = omega arith in ap (λ k. replicate k 0) z
-
-count-rows : (k n m : ℕ) → n ≤ min 65536 (m / k) → n * k ≤ m
-count-rows k n m h =
-    let up : n * k ≤ m / k * k = mul-le-mul-right k (omega arith) in
-    let low : m / k * k + m % k ≡ m = div-add-mod' m k in
-    omega arith
 
 rows-left : (size n : ℕ) (T rows left : List ℕ) → length rows ≡ n * size → n ≤ capacity size (length T) → left ≡ padded (length T) rows → RowsLeft size n T left
 unfolding padded

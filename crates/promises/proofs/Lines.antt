@@ -4,7 +4,7 @@ use Prim.Native.Nat.{ℕ, zero, suc, _≤_, _<_, _^_}
 use mathlib.Core.Path.{_≡_, refl, sym, ap, _∙_, subst}
 use mathlib.Core.Bool.{Bool, true, _&&_}
 use mathlib.Core.List.{List, [], _∷_, _++_, append-assoc}
-use native.Mathlib.Nat.{le-trans, le-of-suc-le-suc, not-suc-le-zero}
+use native.Mathlib.Nat.{le-of-suc-le-suc, not-suc-le-zero}
 use native.Mathlib.Omega.{arith}
 use borrow.Author.Tests.{leb-true, eqb-true, ne-eqb}
 use lib.Dec.{eqb, leb}
@@ -15,11 +15,12 @@ use Rattle.rules.specs.Instructions.{Instruction, instructions, instructionName
 use Rattle.rules.specs.Tokens.{intStart}
 use Rattle.rules.specs.Syntax.{Name, Typing, untyped, typed, Operand, value, constant, RightSide, var, block, phi, reservedinst, reservedconst, instruction, Attribute, knownBits, powerOfTwo, negative, nonNegative, nonZero, hasExternalUses, signBits, range, RootAttribute, demandedBits, harvestedFromUse, Assignment, assignment, Closing, inferResult, cand, infer, result}
 use Rattle.rules.specs.Printing.{name, number, feed, typing, operand, further, operands, side, attribute, rootAttribute, attributes, line, inferLine, resultLine, candLine, firstClosing}
+use Rattle.rules.specs.Meaning.{All}
 use Rattle.laws.proofs.Tests.{and-left, and-right}
-use Rattle.bynames.proofs.Members.{All}
 use Rattle.bynames.proofs.WellFormed.{Each, IsName, IsPattern, bitByte, TypingOk, OperandOk, SideOk, AttributeOk, RootAttributeOk, AssignmentOk, ClosingOk}
 use Rattle.bynames.proofs.Tokens.{or-cases}
 use Rattle.bynames.proofs.Decimals.{decimal-printed}
+use Rattle.bynames.proofs.Ascii.{small}
 
 -- whether no byte of a list is a line feed
 abbrev pub unfed : List ℕ → Bool
@@ -119,9 +120,6 @@ number-part : (c : ℕ) → c < 2 ^ 128 → Part (number c)
 number-part c h =
     let p = decimal-printed c h .token in
     fixed (decimal c) (subst (λ (z : List ℕ). unfed z ≡ true) (sym (p .spelt)) (rw (high-line (p .first) (start-high (p .first) (p .starts))) (each-unfed digit digit-high (p .rest) (p .each))))
-
-small : (width c : ℕ) → leb (2 ^ width) (2 ^ 128) ≡ true → c < 2 ^ width → c < 2 ^ 128
-small width c e h = le-trans h (leb-true (2 ^ width) (2 ^ 128) e)
 
 typing-part : (y : Typing) → TypingOk y → Part (typing y)
 unfolding lineByte

@@ -10,11 +10,11 @@ use mathlib.Core.Logic.{inl, inr}
 use mathlib.Core.List.{List, [], _∷_, _++_, append-assoc}
 use Rattle.rules.specs.declared.Entry.{Entry}
 use Rattle.rules.specs.Syntax.{Name, Assignment, Statement, assignment, pc, blockpc, Closing, inferResult, cand, infer, result, Item, onto, firstRoots, secondRoots}
-use Rattle.rules.specs.Meaning.{Mem, Reachable}
+use Rattle.rules.specs.Meaning.{Mem, Reachable, All}
 use Rattle.rules.specs.Listing.{listedBefore, listedBetween}
 use Rattle.rules.specs.Out.{joined}
 use Rattle.rules.specs.Printing.{feed, line, lines, resultLine, firstClosing, secondClosing, printed, printedAll}
-use Rattle.bynames.proofs.Members.{All, all-append}
+use Rattle.laws.proofs.Members.{all-append}
 use Rattle.bynames.proofs.WellFormed.{ClosingOk, Wf, WfItem}
 use Rattle.bynames.proofs.Canon.{canon-wf}
 use Rattle.bynames.proofs.BackLines.{Plain, wf-below}

@@ -10,6 +10,11 @@ abbrev pub Mem : {A : Type 0} → A → List A → Type 0
 Mem x [] = ⊥
 Mem x (y ∷ l) = (x ≡ y) ⊎ Mem x l
 
+-- each element of a list is so
+abbrev pub All : {A : Type 0} → (A → Type 0) → List A → Type 0
+All P [] = Unit {0}
+All P (x ∷ l) = P x × All P l
+
 -- among some statements, an assignment is reached from a name: it has that name, or another that has it refers to a name from which it is reached
 pub data Reach (l : List Statement) (b : Assignment) : Name → Type 0 where
   here : {n : Name} → Mem (assignment b) l → b .name ≡ n → Reach l b n

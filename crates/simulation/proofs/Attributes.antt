@@ -52,7 +52,7 @@ drop-take (suc k) (suc n) [] = sym (none (suc n - suc k))
     none (suc i) = refl
 drop-take (suc k) (suc n) (x ∷ l) = let e : suc n - suc k ≡ n - k = omega arith in rw e (drop-take k n l)
 
-pattern-letters : (text : List ℕ) (first past : ℕ) → part text (min (first + 10) past) past ≡ drop 10 (part text first past)
+pub pattern-letters : (text : List ℕ) (first past : ℕ) → part text (min (first + 10) past) past ≡ drop 10 (part text first past)
 pattern-letters text first past =
     by-cases (leb (first + 10) past)
     (λ e.

@@ -55,7 +55,7 @@ pub record Again (xs : List Item) (r : Answer) (I′ S′ O′ A′ : List ℕ) 
   pub means : SameMeanings xs (itemsOf (printedAll xs) I′ S′ O′ A′ items)
   pub prints : printedAll (itemsOf (printedAll xs) I′ S′ O′ A′ items) ≡ printedAll xs
 
-same-tables : {r : Outcome} (t u : Tables) → r ≡ accepted t → r ≡ accepted u → t ≡ u
+pub same-tables : {r : Outcome} (t u : Tables) → r ≡ accepted t → r ≡ accepted u → t ≡ u
 same-tables t u p q = cc
 
 module _ {e : Entry} where
@@ -103,7 +103,7 @@ module _ {e : Entry} where
           let y = left c in
           rw (y .says) (λ s m. reading-back e (c .text) (lent (c .I) (c .S) (c .O) (c .A)) (y .tables) (y .reads) s (lent I S O A) m)
 
-refused-seven : (o : Outcome) (p : ℕ) → answerOf o ≡ answer.Refused 7 p → o ≡ refusal 7 p
+pub refused-seven : (o : Outcome) (p : ℕ) → answerOf o ≡ answer.Refused 7 p → o ≡ refusal 7 p
 unfolding answerOf
 refused-seven (accepted t) p h = absurd (let z : _≡_ {A = ℕ} 0 1 = cc in omega arith)
 refused-seven (refusal n q) p h = cc

@@ -17,14 +17,14 @@ use Rattle.simulation.proofs.Stable.{Sized, Later}
 use Rattle.simulation.proofs.Whole.{accepted-says}
 
 -- a table with other words
-abbrev holding : Table → List ℕ → Table
+abbrev pub holding : Table → List ℕ → Table
 holding t ws = record { cap = t .cap; count = t .count; words = ws }
 
-abbrev holdingAll : Tables → List ℕ → List ℕ → List ℕ → List ℕ → Tables
+abbrev pub holdingAll : Tables → List ℕ → List ℕ → List ℕ → List ℕ → Tables
 holdingAll t I S O A = record { items = holding (t .items) I; statements = holding (t .statements) S; operands = holding (t .operands) O; attributes = holding (t .attributes) A }
 
 -- words behind the counted rows change no row
-behind : (t : Tables) → Sized t → (i s o a : List ℕ) → Later t (holdingAll t (t .items .words ++ i) (t .statements .words ++ s) (t .operands .words ++ o) (t .attributes .words ++ a))
+pub behind : (t : Tables) → Sized t → (i s o a : List ℕ) → Later t (holdingAll t (t .items .words ++ i) (t .statements .words ++ s) (t .operands .words ++ o) (t .attributes .words ++ a))
 behind t z i s o a =
     record {
       items = omega arith;

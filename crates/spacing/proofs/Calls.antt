@@ -21,6 +21,7 @@ use Rattle.rules.specs.World.{Tables}
 use Rattle.rules.specs.Answers.{Lent, lent, Outcome, accepted, answerOf, Reads, reading}
 use Rattle.simulation.proofs.Said.{itemsIn}
 use Rattle.simulation.proofs.Left.{left-say}
+use Rattle.simulation.proofs.Calls.{same-tables}
 use Rattle.spacing.proofs.TokenList.{nth, tokensOf}
 use Rattle.spacing.proofs.SpacingIsNothing.{SameOutcome, both-accepted, both-at-token, both-at-fault, both-at-end, spacing-is-nothing}
 
@@ -48,9 +49,6 @@ pub data SameAnswer {e : Entry} (c d : Call e) : Answer → Answer → Type 0 wh
   at-token : (n i : ℕ) (s t : Token) → nth (c .text) i ≡ Found s → nth (d .text) i ≡ Found t → SameAnswer c d (answer.Refused n (s .first)) (answer.Refused n (t .first))
   at-fault : (i p q : ℕ) → nth (c .text) i ≡ Refused p → nth (d .text) i ≡ Refused q → SameAnswer c d (answer.Refused 3 p) (answer.Refused 3 q)
   at-end : (i : ℕ) → nth (c .text) i ≡ End → nth (d .text) i ≡ End → SameAnswer c d (answer.Refused 4 (length (c .text) - 1)) (answer.Refused 4 (length (d .text) - 1))
-
-same-tables : {r : Outcome} (t u : Tables) → r ≡ accepted t → r ≡ accepted u → t ≡ u
-same-tables t u p q = cc
 
 module _ {e : Entry} where
   abbrev lentTo : Call e → Lent

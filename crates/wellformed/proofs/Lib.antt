@@ -4,6 +4,5 @@ pub mod Along
 pub mod Counted
 pub mod Codes
 pub mod Spans
-pub mod Inside
 pub mod Marked
 pub mod Examples

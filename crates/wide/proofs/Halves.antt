@@ -5,13 +5,14 @@ use Prim.Native.Nat.{ℕ, suc, _+_, _-_, _*_, _/_, _%_, _^_, _≤_, _<_}
 use native.Mathlib.Omega.{arith}
 use native.Mathlib.Nat.{mul-le-mul-right, mod-eq-of-lt, add-mod-right, mod-lt, div-add-mod'}
 use lib.Dec.{eqb, leb, ltb}
-use borrow.Author.Tests.{eq-eqb, ne-eqb, leb-true, leb-false}
+use borrow.Author.Tests.{eq-eqb, leb-true, leb-false}
 use Rattle.rules.specs.Integers.{opposite}
 use Rattle.wide.specs.declared.Wide.{Wide}
 use Rattle.rules.specs.declared.Words.{Words}
 use Rattle.rules.specs.Rows.{wordsOf, bitsOf}
 use Rattle.wide.specs.Wide.{bits}
 use Rattle.laws.proofs.Cases.{by-cases, leb-iff, eqb-iff}
+use Rattle.laws.proofs.Opposite.{opposite-is}
 
 module _ (B : ℕ) where
   pub lt-high : {h k : ℕ} (l m : ℕ) → h < k → l < B → h * B + l < k * B + m
@@ -98,12 +99,6 @@ words-told v w f g e =
 -- minus a number, in two's complement
 pub opposite-zero : (b : ℕ) → b ≡ 0 → b ≡ opposite b
 opposite-zero b e = e ∙ sym (rw (eq-eqb b 0 e))
-
-not-zero : (b : ℕ) → 0 < b → b ≡ 0 → ⊥
-not-zero b h k = omega arith
-
-pub opposite-is : (b : ℕ) → 0 < b → opposite b ≡ 2 ^ 128 - b
-opposite-is b h = rw (ne-eqb b 0 (not-zero b h))
 
 pub opposite-some : (b r : ℕ) → 0 < b → r ≡ 2 ^ 128 - b → r ≡ opposite b
 opposite-some b r h e = e ∙ sym (opposite-is b h)

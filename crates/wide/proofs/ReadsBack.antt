@@ -14,8 +14,8 @@ use Rattle.rules.specs.Integers.{number, refused, behind, unsigned, fits, integ
 use Rattle.rules.specs.Bytes.{byte, digit}
 use Rattle.laws.proofs.Tests.{and-left, and-right}
 use Rattle.laws.proofs.Cases.{by-cases}
+use Rattle.laws.proofs.Opposite.{opposite-is, Left, left}
 use Rattle.wide.proofs.Fields.{apart}
-use Rattle.wide.proofs.Halves.{opposite-is}
 use Rattle.wide.proofs.Unsigned.{digit-range, range-digit, unsigned-some}
 use Rattle.wide.proofs.Digits.{few, len-some}
 use Rattle.wide.proofs.Decimals.{decimal-sign, decimal-plain}
@@ -86,17 +86,6 @@ no-sign b d = let r : (byte "0" ≤ b) × (b ≤ byte "9") = digit-range b d in 
 
 pub digits-first : (n : ℕ) → n < 2 ^ 128 → digit (getD (digits n) 0 0) ≡ true
 digits-first n h = every-first (digits n) (len-some n h) (digits-every n h)
-
--- what is left to M, where T is its half
-record Left (M T b : ℕ) : Type 0 where
-  pub half : M - b ≤ T
-  pub less : M - b < M
-  pub some : 0 < M - b
-  pub twice : M - (M - b) ≡ b
-  pub there : 0 < b
-
-left : (M T b : ℕ) → M ≡ T + T → 0 < T → T ≤ b → b < M → Left M T b
-left M T b e z h k = record { half = omega arith; less = omega arith; some = omega arith; twice = omega arith; there = omega arith }
 
 module _ (b : ℕ) (h : b < 2 ^ 128) where
   below-zero : 2 ^ 127 ≤ b → Left (2 ^ 128) (2 ^ 127) b

@@ -2,7 +2,7 @@
 -- Assumes nothing.
 use mathlib.Core.Path.{subst}
 use Prim.Native.Nat.{_<_}
-use Rattle.listing.specs.References.{All}
+use Rattle.rules.specs.Meaning.{All}
 use Rattle.printer.proofs.Roots.{rows-as}
 use Rattle.printer.proofs.ByKind.{replacement-roots, candidate-roots, left-roots, right-roots}
 use Rattle.printer.proofs.listed.put_before.Statement.{statement}

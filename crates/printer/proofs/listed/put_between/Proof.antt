@@ -2,7 +2,7 @@
 -- Assumes nothing.
 use mathlib.Core.Path.{subst}
 use Prim.Native.Nat.{_<_}
-use Rattle.listing.specs.References.{All}
+use Rattle.rules.specs.Meaning.{All}
 use Rattle.printer.proofs.Roots.{rows-none, rows-as}
 use Rattle.printer.proofs.ByKind.{second-roots, no-second-roots}
 use Rattle.printer.proofs.listed.put_between.Statement.{statement}

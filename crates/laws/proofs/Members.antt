@@ -5,9 +5,8 @@ use mathlib.Core.Logic.{_⊎_, inl, inr, ⊎-elim}
 use mathlib.Core.List.{List, [], _∷_, _++_, append-assoc}
 use Prim.Native.Nat.{ℕ, _≤_, _<_}
 use native.Mathlib.Omega.{arith}
-use Rattle.rules.specs.Meaning.{Mem}
+use Rattle.rules.specs.Meaning.{Mem, All}
 use Rattle.rules.specs.Syntax.{flat}
-use Rattle.listing.specs.References.{All}
 
 module _ {A : Type 0} where
   pub all-at : (P : A → Type 0) (xs : List A) → All P xs → (x : A) → Mem x xs → P x
