@@ -4,7 +4,6 @@ use mathlib.Core.Path.{_≡_, sym, ap, _∙_}
 use mathlib.Core.Bool.{true, not}
 use mathlib.Core.List.{List}
 use Prim.Native.Nat.{ℕ, _+_, _*_, _%_, _≤_, _<_}
-use native.Mathlib.Nat.{mod-one}
 use native.Mathlib.Numerals.{add-one}
 use native.Mathlib.Omega.{arith}
 use lib.Dec.{eqb}
@@ -27,11 +26,6 @@ module _ (h : ℕ) (s : List ℕ) (i : ℕ) where
 
   pub number-end : length s ≤ i → numberOf h (drop i s) ≡ h
   number-end l = rw (drop-of-length-le s l)
-
--- of one mark
-pub slot-one : (n : ℕ) (s : List ℕ) → 1 ≤ n → n < 2 → 0 ≡ slotOf n s
-unfolding slotOf
-slot-one n s h l = let e : n ≡ 1 = omega arith in sym (ap (λ (m : ℕ). numberOf 0 s % m) e ∙ mod-one (numberOf 0 s))
 
 -- l has the letters of row i's name
 pub slot-at :

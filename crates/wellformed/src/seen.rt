@@ -8,9 +8,6 @@ pub fn slot(name: &[u8], n: usize) -> usize
     requires { ⌜ 1 ≤ n ⌝ }
     ensures { λ r. ⌜ (r ≡ slotOf n (now (name .entry))) × (r < n) ⌝ }
 {
-    if n < 2 {
-        return 0;
-    }
     let mut h: usize = 0;
     let mut i = 0;
     while i < name.len() {

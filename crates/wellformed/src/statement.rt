@@ -178,11 +178,11 @@ fn statements_in(
     true
 }
 
-// The same with one mark, for an item of few statements: each name but the first is searched for.
+// The same with 256 marks, for an item of few statements.
 fn few_ok(text: &[u8], statements: &[u32], operands: &[u32], attributes: &[u32], s: Span) -> bool
     ensures { λ r. ⌜ r ≡ statementsOk (now (text .entry)) (now (statements .entry)) (now (operands .entry)) (now (attributes .entry)) s ⌝ }
 {
-    let mut seen = [0u8; 1];
+    let mut seen = [0u8; 256];
     statements_in(text, statements, operands, attributes, s, &mut seen)
 }
 

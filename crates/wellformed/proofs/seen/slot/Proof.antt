@@ -7,7 +7,7 @@ use native.Mathlib.Omega.{arith}
 use lib.ListN.{length, drop}
 use borrow.Author.Needs.{needs}
 use Rattle.wellformed.specs.Slots.{numberOf, slotOf}
-use Rattle.wellformed.proofs.Marked.{number-more, number-end, slot-one}
+use Rattle.wellformed.proofs.Marked.{number-more, number-end}
 use Rattle.wellformed.proofs.seen.slot.Statement.{statement}
 use Rattle.wellformed.proofs.seen.slot.Tie as tie
 
@@ -16,9 +16,6 @@ Inv-loop name n h₀ i₀ h i = (h < 65536) × (numberOf 0 name ≡ numberOf h (
 
 abbrev μ-loop : tie.MeasureT-loop
 μ-loop name n h₀ i₀ h i = length name - i
-
-returns : tie.Need-returns Inv-loop μ-loop
-returns c = (slot-one _ _ (c .before .pre) (c .if1 .taken), search needs)
 
 loop-holds : tie.Need-loop-holds Inv-loop μ-loop
 loop-holds c = (omega arith, refl)
@@ -43,17 +40,17 @@ loop-less c = search needs
 
 loop-again : tie.Need-loop-again Inv-loop μ-loop
 loop-again c =
-    let e = number-more (c .before .before .loop .h) (c .before .before .before .before .args .name .now) (c .before .before .loop .i) (search needs) in
+    let e = number-more (c .before .before .loop .h) (c .before .before .before .args .name .now) (c .before .before .loop .i) (search needs) in
     (mod-lt _ (omega arith), c .before .before .loop .inv .1 ∙ e)
 
 rem-result : tie.Need-rem-result Inv-loop μ-loop
 rem-result c = search needs
 
-returns-2 : tie.Need-returns-2 Inv-loop μ-loop
+returns : tie.Need-returns Inv-loop μ-loop
 unfolding slotOf
-returns-2 c =
-    let e = number-end (c .before .loop .h) (c .before .before .before .args .name .now) (c .before .loop .i) (search needs) in
-    (ap (λ (x : ℕ). x % c .before .before .before .args .n) (sym (c .before .loop .inv .1 ∙ e)), mod-lt _ (omega arith))
+returns c =
+    let e = number-end (c .before .loop .h) (c .before .before .args .name .now) (c .before .loop .i) (search needs) in
+    (ap (λ (x : ℕ). x % c .before .before .args .n) (sym (c .before .loop .inv .1 ∙ e)), mod-lt _ (omega arith))
 
 pub slot-spec : {M : Type 1} → statement M
 slot-spec =
@@ -61,7 +58,6 @@ slot-spec =
     (tie.spec
     Inv-loop
     μ-loop
-    returns
     loop-holds
     mul-h
     shared-slice-read-h
@@ -71,4 +67,4 @@ slot-spec =
     loop-less
     loop-again
     rem-result
-    returns-2)
+    returns)
