@@ -1,7 +1,7 @@
 /* peldarox.h -- read Souper IR into tables lent by the caller, print such tables, and find names in them.
 
-   The library takes no memory of its own but its stack, less than 8 KB for a read and less than 80 KB for a print
-   or a name. It keeps nothing between calls and calls nothing back: everything a call knows is in its arguments,
+   The library takes no memory of its own but its stack, less than 40 KB for a read and less than 80 KB for a
+   print or a name. It keeps nothing between calls and calls nothing back: everything a call knows is in its arguments,
    everything it has to say is in what it is lent to write and in the report. Any bytes, any lengths, any counts and
    any contents of the tables are allowed; every call ends, with one of the answers below. Calls that share no memory
    that one of them writes may run at the same time. */

@@ -1,63 +1,25 @@
--- The search for a name back through the item's statement rows: one row at a time, among the rows that are counted, and what a rule does with what is found.
+-- The search for a name among the item's statement rows that are counted, and what a rule does with what is found.
 -- Assumes nothing.
 use Prim.Native.Nat.{ℕ, zero, suc, _+_, _*_, _-_, _≤_, _<_}
-use mathlib.Core.Path.{_≡_, refl, sym, ap, _∙_}
-use mathlib.Core.Bool.{Bool, true, false, cond}
+use mathlib.Core.Path.{_≡_, refl, sym, _∙_}
 use mathlib.Core.List.{List}
 use native.Mathlib.Omega.{arith}
 use borrow.Author.Tests.{eq-eqb, ne-eqb}
-use lib.ListN.{getD, take}
+use lib.ListN.{take}
 use Rattle.rules.specs.declared.Row.{Row}
-use Rattle.rules.specs.declared.Row.the-variants.{At, Missing}
-use Rattle.rules.specs.declared.Span.{Span}
+use Rattle.rules.specs.declared.Row.the-variants.{At}
 use Rattle.rules.specs.declared.Spot.{Spot}
-use Rattle.rules.specs.Bytes.{part, same}
+use Rattle.rules.specs.Bytes.{same}
 use Rattle.rules.specs.Rows.{statementLength, statementAt, nameAt, keywordCode}
 use Rattle.rules.specs.Keywords as keyword
 use Rattle.rules.specs.Faults as fault
 use Rattle.rules.specs.Reading.{letters, findRow, inScope, blockAt}
 use Rattle.rules.specs.World.{Res, go, stop, P, _>>=_, asks}
 use Rattle.laws.proofs.Same.{by-cond}
-use Rattle.laws.proofs.Places.{same-eq}
 use Rattle.tables.specs.declared.State.{State}
 use Rattle.tables.specs.Stands.{world, stands, run}
 use Rattle.tables.proofs.Fields.{name-counted, statement-counted}
 use Rattle.tables.proofs.Chains as chain
-
--- the letters at the place of a row's name, compared with a name
-pub compared : (text words name : List ℕ) (i : ℕ) {place : Span} {letters : List ℕ} → place ≡ statementAt words i .name → letters ≡ part text (place .first) (place .past) → same (nameAt text words i) name ≡ same letters name
-unfolding nameAt
-compared text words name i e l = rw (l, e)
-
--- two lists that differ at a place
-differ-if : (a b : List ℕ) (j : ℕ) → (getD a j 0 ≡ getD b j 0 → ⊥) → (t : Bool) → same a b ≡ t → t ≡ false
-differ-if a b j h true e = absurd (h (ap (λ (l : List ℕ). getD l j 0) (same-eq a b e)))
-differ-if a b j h false e = refl
-
-pub differ : (a b : List ℕ) (j : ℕ) → (getD a j 0 ≡ getD b j 0 → ⊥) → same a b ≡ false
-differ a b j h = differ-if a b j h (same a b) refl
-
--- a search that stands at row i looks at the row before it
-module _ (text words name : List ℕ) (first i : ℕ) (h : first < i) where
-  looked : findRow text words name first (i - first) ≡ cond (same (nameAt text words (i - 1)) name) (At (i - 1)) (findRow text words name first (i - 1 - first))
-  unfolding findRow
-  looked =
-      let more : i - first ≡ suc (i - 1 - first) = omega arith in
-      let here : first + (i - 1 - first) ≡ i - 1 = omega arith in
-      rw (more, here)
-
-  pub found-here : same (nameAt text words (i - 1)) name ≡ true → findRow text words name first (i - first) ≡ At (i - 1)
-  found-here e = rw (looked, e)
-
-  pub not-here : same (nameAt text words (i - 1)) name ≡ false → findRow text words name first (i - first) ≡ findRow text words name first (i - 1 - first)
-  not-here e = rw (looked, e)
-
--- a search that has come to the first row
-pub none-left : (text words name : List ℕ) (first i : ℕ) → i ≤ first → findRow text words name first (i - first) ≡ Missing
-unfolding findRow
-none-left text words name first i h =
-    let none : i - first ≡ 0 = omega arith in
-    rw none
 
 -- rows among those that are counted
 module _ (text words name : List ℕ) (first n : ℕ) where
@@ -98,6 +60,7 @@ module _ (text : List ℕ) (s : State) (I S O A : List ℕ) where
     no-block h = rw (scope-code, ne-eqb _ _ h)
 
 module _ {C : Type 0} (text : List ℕ) (s : State) (I S O A : List ℕ) where
-  -- what a rule does with what is found in scope
-  pub answered : (t : Spot) (f : Row → Spot → P C) (R : Res C) {r b : Row} → r ≡ inScope t (world text s I S O A) → r ≡ b → R ≡ run (stands text s I S O A) (f b t) → R ≡ run (stands text s I S O A) (asks (inScope t) >>= λ row. f row t)
-  answered t f R e l k = chain.seen text s I S O A (inScope t) (λ row. f row t) R (rw (← e, l) k)
+  -- what a rule does with what is found in scope, where nothing is at fault
+  pub answered : (t : Spot) (f : Row → Spot → P C) (R : Res C) {r b : Row} → (s .fault ≡ 0 → r ≡ inScope t (world text s I S O A)) → r ≡ b → R ≡ run (stands text s I S O A) (f b t) → R ≡ run (stands text s I S O A) (asks (inScope t) >>= λ row. f row t)
+  unfolding asks
+  answered t f R {r} {b} e l k = chain.alike-if text s I S O A (f b t) (asks (inScope t) >>= λ row. f row t) R k (λ ok. rw (← e ok, l))

@@ -15,7 +15,7 @@ use tables::start;
 ghost use mathlib.Core.Path.{_≡_};
 ghost use mathlib.Core.List.{List};
 ghost use Prim.Native.Nat.{ℕ, _≤_};
-ghost use lib.ListN.{length};
+ghost use lib.ListN.{length, getD};
 ghost use Rattle.rules.specs.Answers.{Ends, Reads, refusal, outcome, lent, faultNumber, start as startOf};
 ghost use Rattle.rules.specs.Reading.{items as itemsRule};
 ghost use Rattle.tables.specs.Stands.{stands};
@@ -161,7 +161,35 @@ fn finish(
     }
 }
 
-// A well-formed text within the limit.
+// A well-formed text within the limit, with an index that holds nothing.
+fn read_indexed(
+    text: &[u8],
+    items: &mut [u32],
+    statements: &mut [u32],
+    index: &mut [u16],
+    operands: &mut [u32],
+    attributes: &mut [u32],
+    entry: Entry,
+) -> Answer
+    requires { ⌜ length (now text) ≤ 65536 ⌝ }
+    requires { ⌜ ((h : ℕ) → getD (now index) h 0 ≡ 0) ⌝ }
+    ensures { λ r. ⌜ Ends (outcome (itemsRule entry (startOf (now (text .entry)) (lent (now (items .entry)) (now (statements .entry)) (now (operands .entry)) (now (attributes .entry)))))) (now (items .entry)) (now (statements .entry)) (now (operands .entry)) (now (attributes .entry)) r (now (items .exit)) (now (statements .exit)) (now (operands .exit)) (now (attributes .exit)) ⌝ }
+{
+    let s = items_of(
+        text,
+        start(),
+        items,
+        statements,
+        index,
+        operands,
+        attributes,
+        entry,
+    );
+    finish(s, items, statements, operands, attributes)
+}
+
+// A well-formed text within the limit. Of an index only what the text can need is laid out: none where it is short, else links for a statement to every six bytes, which is the
+// fewest that one has.
 fn read_checked(
     text: &[u8],
     items: &mut [u32],
@@ -173,14 +201,38 @@ fn read_checked(
     requires { ⌜ length (now text) ≤ 65536 ⌝ }
     ensures { λ r. ⌜ Ends (outcome (itemsRule entry (startOf (now (text .entry)) (lent (now (items .entry)) (now (statements .entry)) (now (operands .entry)) (now (attributes .entry)))))) (now (items .entry)) (now (statements .entry)) (now (operands .entry)) (now (attributes .entry)) r (now (items .exit)) (now (statements .exit)) (now (operands .exit)) (now (attributes .exit)) ⌝ }
 {
-    let s = items_of(
+    if text.len() <= 512 {
+        let mut index: [u16; 0] = [0; 0];
+        return read_indexed(
+            text,
+            items,
+            statements,
+            &mut index,
+            operands,
+            attributes,
+            entry,
+        );
+    }
+    if text.len() <= 8192 {
+        let mut index: [u16; 2391] = [0; 2391];
+        return read_indexed(
+            text,
+            items,
+            statements,
+            &mut index,
+            operands,
+            attributes,
+            entry,
+        );
+    }
+    let mut index: [u16; 11948] = [0; 11948];
+    read_indexed(
         text,
-        start(),
         items,
         statements,
+        &mut index,
         operands,
         attributes,
         entry,
-    );
-    finish(s, items, statements, operands, attributes)
+    )
 }

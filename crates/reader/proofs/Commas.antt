@@ -1,12 +1,13 @@
 -- Rules one after another, and operands with or without a comma before the first.
 -- Assumes nothing.
-use Prim.Native.Nat.{ℕ, zero, suc}
+use Prim.Native.Nat.{ℕ, suc}
 use mathlib.Core.Path.{_≡_, refl}
 use mathlib.Core.Bool.{Bool, true, false}
 use Rattle.rules.specs.Tokens as kind
 use Rattle.rules.specs.Reading as R
 use Rattle.rules.specs.World.{Res, go, stop, P, bind, _>>=_, _>>_, give}
 use Rattle.tables.specs.Stands.{run}
+use Rattle.index.proofs.Steady.{Steady, given, after, expect-steady}
 use Rattle.reader.specs.Commas.{commaIf, operandsBehind}
 
 pub bind-bind : {A B C : Type 0} (r : Res A) (f : A → P B) (g : B → P C) → bind (bind r f) g ≡ bind r (λ a. f a >>= g)
@@ -44,3 +45,9 @@ none-behind false m = refl
 pub one-operand : (m : Res (Unit {0})) → run m (operandsBehind false 1) ≡ run m R.operand
 unfolding operandsBehind R.operands R.furtherOperands
 one-operand m = run-give m R.operand
+
+-- a comma, where one is wanted, leaves the scope and the statements as they are
+pub comma-steady : (comma : Bool) → Steady (commaIf comma)
+unfolding commaIf
+comma-steady true = after (expect-steady kind.comma) (λ t. given tt)
+comma-steady false = given tt

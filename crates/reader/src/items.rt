@@ -23,6 +23,7 @@ ghost use lib.Dec.{eqb};
 ghost use lib.ListN.{length};
 ghost use Rattle.rules.specs.Reading as R;
 ghost use Rattle.tables.specs.Stands.{out, stands, run};
+ghost use Rattle.index.specs.Ready.{Ready};
 
 // The row of an item, claimed last of all; the scope ends with it.
 fn close_item(
@@ -57,11 +58,12 @@ fn close_item(
 }
 
 // `infer`, a value and root attributes: the value's row.
-fn infer(text: &[u8], s: State, statements: &[u32], attributes: &mut [u32]) -> Number
+fn infer(text: &[u8], s: State, statements: &[u32], index: &[u16], attributes: &mut [u32]) -> Number
     requires { ⌜ length (now text) ≤ 65536 ⌝ }
+    requires { ⌜ Ready (now text) s (now statements) (now index) ⌝ }
     ensures { λ r. ⌜ ((I : List ℕ) (O : List ℕ) → out (r .value) (now (text .entry)) (r .state) I (now (statements .entry)) O (now (attributes .exit)) ≡ run (stands (now (text .entry)) s I (now (statements .entry)) O (now (attributes .entry))) R.infer) ⌝ }
 {
-    let v = names::value(text, ident(text, s, keyword::INFER), statements);
+    let v = names::value(text, ident(text, s, keyword::INFER), statements, index);
     let row = v.value;
     let t = root_attributes(text, v.state, attributes);
     Number {
@@ -76,6 +78,7 @@ fn result(
     s: State,
     items: &mut [u32],
     statements: &[u32],
+    index: &[u16],
     operands: &mut [u32],
     kind: u32,
     middle: u32,
@@ -83,10 +86,12 @@ fn result(
     attributes: Span,
 ) -> State
     requires { ⌜ length (now text) ≤ 65536 ⌝ }
+    requires { ⌜ Ready (now text) s (now statements) (now index) ⌝ }
     ensures { λ r. ⌜ ((A : List ℕ) → stands (now (text .entry)) r (now (items .exit)) (now (statements .entry)) (now (operands .exit)) A ≡ run (stands (now (text .entry)) s (now (items .entry)) (now (statements .entry)) (now (operands .entry)) A) (R.result kind middle infer attributes)) ⌝ }
+    ensures { λ r. ⌜ Ready (now (text .entry)) r (now (statements .entry)) (now (index .entry)) ⌝ }
 {
     let t = ident(text, s, keyword::RESULT);
-    let u = operand(text, t, statements, operands);
+    let u = operand(text, t, statements, index, operands);
     let closing = Span {
         first: t.operands,
         past: u.operands,
@@ -100,16 +105,19 @@ fn cand(
     s: State,
     items: &mut [u32],
     statements: &[u32],
+    index: &[u16],
     operands: &mut [u32],
     attributes: &mut [u32],
     middle: u32,
 ) -> State
     requires { ⌜ length (now text) ≤ 65536 ⌝ }
+    requires { ⌜ Ready (now text) s (now statements) (now index) ⌝ }
     ensures { λ r. ⌜ stands (now (text .entry)) r (now (items .exit)) (now (statements .entry)) (now (operands .exit)) (now (attributes .exit)) ≡ run (stands (now (text .entry)) s (now (items .entry)) (now (statements .entry)) (now (operands .entry)) (now (attributes .entry))) (R.cand middle) ⌝ }
+    ensures { λ r. ⌜ Ready (now (text .entry)) r (now (statements .entry)) (now (index .entry)) ⌝ }
 {
     let t = ident(text, s, keyword::CAND);
-    let x = operand(text, t, statements, operands);
-    let y = operand(text, x, statements, operands);
+    let x = operand(text, t, statements, index, operands);
+    let y = operand(text, x, statements, index, operands);
     let e = root_attributes(text, y, attributes);
     let closing = Span {
         first: t.operands,
@@ -128,26 +136,30 @@ fn infer_and_result(
     s: State,
     items: &mut [u32],
     statements: &mut [u32],
+    index: &mut [u16],
     operands: &mut [u32],
     attributes: &mut [u32],
     middle: u32,
 ) -> State
     requires { ⌜ length (now text) ≤ 65536 ⌝ }
+    requires { ⌜ Ready (now text) s (now statements) (now index) ⌝ }
     ensures { λ r. ⌜ stands (now (text .entry)) r (now (items .exit)) (now (statements .exit)) (now (operands .exit)) (now (attributes .exit)) ≡ run (stands (now (text .entry)) s (now (items .entry)) (now (statements .entry)) (now (operands .entry)) (now (attributes .entry))) (R.inferAndResult middle) ⌝ }
+    ensures { λ r. ⌜ Ready (now (text .entry)) r (now (statements .exit)) (now (index .exit)) ⌝ }
 {
-    let v = infer(text, s, statements, attributes);
+    let v = infer(text, s, statements, index, attributes);
     let row = v.value;
     let t = v.state;
     let notes = Span {
         first: s.attributes,
         past: t.attributes,
     };
-    let u = statements_of(text, t, statements, operands, attributes);
+    let u = statements_of(text, t, statements, index, operands, attributes);
     result(
         text,
         u,
         items,
         statements,
+        index,
         operands,
         code::INFER_RESULT,
         middle,
@@ -162,20 +174,41 @@ fn replacement(
     s: State,
     items: &mut [u32],
     statements: &mut [u32],
+    index: &mut [u16],
     operands: &mut [u32],
     attributes: &mut [u32],
 ) -> State
     requires { ⌜ length (now text) ≤ 65536 ⌝ }
+    requires { ⌜ Ready (now text) s (now statements) (now index) ⌝ }
     ensures { λ r. ⌜ stands (now (text .entry)) r (now (items .exit)) (now (statements .exit)) (now (operands .exit)) (now (attributes .exit)) ≡ run (stands (now (text .entry)) s (now (items .entry)) (now (statements .entry)) (now (operands .entry)) (now (attributes .entry))) R.replacement ⌝ }
+    ensures { λ r. ⌜ Ready (now (text .entry)) r (now (statements .exit)) (now (index .exit)) ⌝ }
 {
-    let t = statements_of(text, s, statements, operands, attributes);
+    let t = statements_of(text, s, statements, index, operands, attributes);
     let middle = t.statements;
     let u = lookahead(text, t);
     let spot = u.ahead;
     if keyword_at(text, spot) == keyword::INFER {
-        return infer_and_result(text, u, items, statements, operands, attributes, middle);
+        return infer_and_result(
+            text,
+            u,
+            items,
+            statements,
+            index,
+            operands,
+            attributes,
+            middle,
+        );
     }
-    cand(text, u, items, statements, operands, attributes, middle)
+    cand(
+        text,
+        u,
+        items,
+        statements,
+        index,
+        operands,
+        attributes,
+        middle,
+    )
 }
 
 // Statements and an `infer` line.
@@ -184,14 +217,17 @@ fn left_side(
     s: State,
     items: &mut [u32],
     statements: &mut [u32],
+    index: &mut [u16],
     operands: &mut [u32],
     attributes: &mut [u32],
 ) -> State
     requires { ⌜ length (now text) ≤ 65536 ⌝ }
+    requires { ⌜ Ready (now text) s (now statements) (now index) ⌝ }
     ensures { λ r. ⌜ stands (now (text .entry)) r (now (items .exit)) (now (statements .exit)) (now (operands .exit)) (now (attributes .exit)) ≡ run (stands (now (text .entry)) s (now (items .entry)) (now (statements .entry)) (now (operands .entry)) (now (attributes .entry))) R.leftSide ⌝ }
+    ensures { λ r. ⌜ Ready (now (text .entry)) r (now (statements .exit)) (now (index .exit)) ⌝ }
 {
-    let t = statements_of(text, s, statements, operands, attributes);
-    let v = infer(text, t, statements, attributes);
+    let t = statements_of(text, s, statements, index, operands, attributes);
+    let v = infer(text, t, statements, index, attributes);
     let row = v.value;
     let u = v.state;
     let closing = Span {
@@ -219,13 +255,16 @@ fn right_side(
     s: State,
     items: &mut [u32],
     statements: &mut [u32],
+    index: &mut [u16],
     operands: &mut [u32],
     attributes: &mut [u32],
 ) -> State
     requires { ⌜ length (now text) ≤ 65536 ⌝ }
+    requires { ⌜ Ready (now text) s (now statements) (now index) ⌝ }
     ensures { λ r. ⌜ stands (now (text .entry)) r (now (items .exit)) (now (statements .exit)) (now (operands .exit)) (now (attributes .exit)) ≡ run (stands (now (text .entry)) s (now (items .entry)) (now (statements .entry)) (now (operands .entry)) (now (attributes .entry))) R.rightSide ⌝ }
+    ensures { λ r. ⌜ Ready (now (text .entry)) r (now (statements .exit)) (now (index .exit)) ⌝ }
 {
-    let t = statements_of(text, s, statements, operands, attributes);
+    let t = statements_of(text, s, statements, index, operands, attributes);
     let notes = Span {
         first: t.attributes,
         past: t.attributes,
@@ -235,6 +274,7 @@ fn right_side(
         t,
         items,
         statements,
+        index,
         operands,
         code::RIGHT_HAND_SIDE,
         t.statements,
@@ -249,17 +289,28 @@ fn item(
     s: State,
     items: &mut [u32],
     statements: &mut [u32],
+    index: &mut [u16],
     operands: &mut [u32],
     attributes: &mut [u32],
     entry: Entry,
 ) -> State
     requires { ⌜ length (now text) ≤ 65536 ⌝ }
+    requires { ⌜ Ready (now text) s (now statements) (now index) ⌝ }
     ensures { λ r. ⌜ stands (now (text .entry)) r (now (items .exit)) (now (statements .exit)) (now (operands .exit)) (now (attributes .exit)) ≡ run (stands (now (text .entry)) s (now (items .entry)) (now (statements .entry)) (now (operands .entry)) (now (attributes .entry))) (R.itemOf entry) ⌝ }
+    ensures { λ r. ⌜ Ready (now (text .entry)) r (now (statements .exit)) (now (index .exit)) ⌝ }
 {
     match entry {
-        Entry::Replacements => replacement(text, s, items, statements, operands, attributes),
-        Entry::LeftHandSides => left_side(text, s, items, statements, operands, attributes),
-        Entry::RightHandSides => right_side(text, s, items, statements, operands, attributes),
+        Entry::Replacements => replacement(text, s, items, statements, index, operands, attributes),
+        Entry::LeftHandSides => left_side(text, s, items, statements, index, operands, attributes),
+        Entry::RightHandSides => right_side(
+            text,
+            s,
+            items,
+            statements,
+            index,
+            operands,
+            attributes,
+        ),
     }
 }
 
@@ -276,16 +327,28 @@ pub fn items_of(
     s: State,
     items: &mut [u32],
     statements: &mut [u32],
+    index: &mut [u16],
     operands: &mut [u32],
     attributes: &mut [u32],
     entry: Entry,
 ) -> State
     requires { ⌜ length (now text) ≤ 65536 ⌝ }
+    requires { ⌜ Ready (now text) s (now statements) (now index) ⌝ }
     ensures { λ r. ⌜ stands (now (text .entry)) r (now (items .exit)) (now (statements .exit)) (now (operands .exit)) (now (attributes .exit)) ≡ run (stands (now (text .entry)) s (now (items .entry)) (now (statements .entry)) (now (operands .entry)) (now (attributes .entry))) (R.items entry) ⌝ }
+    ensures { λ r. ⌜ Ready (now (text .entry)) r (now (statements .exit)) (now (index .exit)) ⌝ }
 {
     let mut t = lookahead(text, s);
     while item_ahead(t) {
-        t = item(text, t, items, statements, operands, attributes, entry);
+        t = item(
+            text,
+            t,
+            items,
+            statements,
+            index,
+            operands,
+            attributes,
+            entry,
+        );
         t = lookahead(text, t);
     }
     t

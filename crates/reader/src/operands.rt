@@ -20,6 +20,7 @@ ghost use lib.ListN.{length};
 ghost use Rattle.rules.specs.Reading as R;
 ghost use Rattle.tables.specs.Stands.{stands, run};
 ghost use Rattle.reader.specs.Commas.{commaIf, operandsBehind};
+ghost use Rattle.index.specs.Ready.{Ready};
 
 // An integer and a type, if any.
 fn constant(text: &[u8], s: State, operands: &mut [u32]) -> State
@@ -41,13 +42,14 @@ fn constant(text: &[u8], s: State, operands: &mut [u32]) -> State
 }
 
 // A name in scope.
-fn named(text: &[u8], s: State, statements: &[u32], operands: &mut [u32]) -> State
+fn named(text: &[u8], s: State, statements: &[u32], index: &[u16], operands: &mut [u32]) -> State
     requires { ⌜ length (now text) ≤ 65536 ⌝ }
+    requires { ⌜ Ready (now text) s (now statements) (now index) ⌝ }
     ensures { λ r. ⌜ ((I : List ℕ) (A : List ℕ) → stands (now (text .entry)) r I (now (statements .entry)) (now (operands .exit)) A ≡ run (stands (now (text .entry)) s I (now (statements .entry)) (now (operands .entry)) A) R.named) ⌝ }
 {
     let t = expect(text, s, kind::VAL_NAME);
     let spot = t.last;
-    match names::in_scope(text, t, statements, spot) {
+    match names::in_scope(text, t, statements, index, spot) {
         Row::At(row) => claim_operand(
             t,
             operands,
@@ -68,13 +70,20 @@ fn named(text: &[u8], s: State, statements: &[u32], operands: &mut [u32]) -> Sta
 }
 
 // A name or a constant, by the token ahead.
-fn named_or_constant(text: &[u8], s: State, statements: &[u32], operands: &mut [u32]) -> State
+fn named_or_constant(
+    text: &[u8],
+    s: State,
+    statements: &[u32],
+    index: &[u16],
+    operands: &mut [u32],
+) -> State
     requires { ⌜ length (now text) ≤ 65536 ⌝ }
+    requires { ⌜ Ready (now text) s (now statements) (now index) ⌝ }
     ensures { λ r. ⌜ ((I : List ℕ) (A : List ℕ) → stands (now (text .entry)) r I (now (statements .entry)) (now (operands .exit)) A ≡ run (stands (now (text .entry)) s I (now (statements .entry)) (now (operands .entry)) A) R.operand) ⌝ }
 {
     let t = lookahead(text, s);
     if t.ahead.kind == kind::VAL_NAME {
-        return named(text, t, statements, operands);
+        return named(text, t, statements, index, operands);
     }
     constant(text, t, operands)
 }
@@ -96,11 +105,13 @@ fn operands_behind(
     text: &[u8],
     s: State,
     statements: &[u32],
+    index: &[u16],
     operands: &mut [u32],
     n: u32,
     comma: bool,
 ) -> State
     requires { ⌜ length (now text) ≤ 65536 ⌝ }
+    requires { ⌜ Ready (now text) s (now statements) (now index) ⌝ }
     ensures { λ r. ⌜ ((I : List ℕ) (A : List ℕ) → stands (now (text .entry)) r I (now (statements .entry)) (now (operands .exit)) A ≡ run (stands (now (text .entry)) s I (now (statements .entry)) (now (operands .entry)) A) (operandsBehind comma n)) ⌝ }
 {
     let mut t = s;
@@ -108,18 +119,25 @@ fn operands_behind(
     let mut behind = comma;
     while 0 < left && t.fault == fault::NONE {
         t = comma_if(text, t, behind);
-        t = named_or_constant(text, t, statements, operands);
+        t = named_or_constant(text, t, statements, index, operands);
         behind = true;
         left -= 1;
     }
     t
 }
 
-pub fn operand(text: &[u8], s: State, statements: &[u32], operands: &mut [u32]) -> State
+pub fn operand(
+    text: &[u8],
+    s: State,
+    statements: &[u32],
+    index: &[u16],
+    operands: &mut [u32],
+) -> State
     requires { ⌜ length (now text) ≤ 65536 ⌝ }
+    requires { ⌜ Ready (now text) s (now statements) (now index) ⌝ }
     ensures { λ r. ⌜ ((I : List ℕ) (A : List ℕ) → stands (now (text .entry)) r I (now (statements .entry)) (now (operands .exit)) A ≡ run (stands (now (text .entry)) s I (now (statements .entry)) (now (operands .entry)) A) R.operand) ⌝ }
 {
-    operands_behind(text, s, statements, operands, 1, false)
+    operands_behind(text, s, statements, index, operands, 1, false)
 }
 
 // n operands, each behind a comma.
@@ -127,19 +145,29 @@ pub fn further_operands(
     text: &[u8],
     s: State,
     statements: &[u32],
+    index: &[u16],
     operands: &mut [u32],
     n: u32,
 ) -> State
     requires { ⌜ length (now text) ≤ 65536 ⌝ }
+    requires { ⌜ Ready (now text) s (now statements) (now index) ⌝ }
     ensures { λ r. ⌜ ((I : List ℕ) (A : List ℕ) → stands (now (text .entry)) r I (now (statements .entry)) (now (operands .exit)) A ≡ run (stands (now (text .entry)) s I (now (statements .entry)) (now (operands .entry)) A) (R.furtherOperands n)) ⌝ }
 {
-    operands_behind(text, s, statements, operands, n, true)
+    operands_behind(text, s, statements, index, operands, n, true)
 }
 
 // n operands with commas between them.
-pub fn operands_of(text: &[u8], s: State, statements: &[u32], operands: &mut [u32], n: u32) -> State
+pub fn operands_of(
+    text: &[u8],
+    s: State,
+    statements: &[u32],
+    index: &[u16],
+    operands: &mut [u32],
+    n: u32,
+) -> State
     requires { ⌜ length (now text) ≤ 65536 ⌝ }
+    requires { ⌜ Ready (now text) s (now statements) (now index) ⌝ }
     ensures { λ r. ⌜ ((I : List ℕ) (A : List ℕ) → stands (now (text .entry)) r I (now (statements .entry)) (now (operands .exit)) A ≡ run (stands (now (text .entry)) s I (now (statements .entry)) (now (operands .entry)) A) (R.operands n)) ⌝ }
 {
-    operands_behind(text, s, statements, operands, n, false)
+    operands_behind(text, s, statements, index, operands, n, false)
 }

@@ -23,6 +23,7 @@ ghost use lib.ListN.{length};
 ghost use Rattle.rules.specs.World.{give};
 ghost use Rattle.rules.specs.Reading as R;
 ghost use Rattle.tables.specs.Stands.{out, stands, run};
+ghost use Rattle.index.specs.Ready.{Ready};
 
 // A state and a right side.
 pub struct Sided {
@@ -59,16 +60,18 @@ fn block_side(text: &[u8], s: State) -> Sided
     with_side(n.state, code::BLOCK, n.value, 0)
 }
 
-fn phi_side(text: &[u8], s: State, statements: &[u32], operands: &mut [u32]) -> Sided
+fn phi_side(text: &[u8], s: State, statements: &[u32], index: &[u16], operands: &mut [u32]) -> Sided
     requires { ⌜ length (now text) ≤ 65536 ⌝ }
+    requires { ⌜ Ready (now text) s (now statements) (now index) ⌝ }
     ensures { λ r. ⌜ ((I : List ℕ) (A : List ℕ) → out (r .side) (now (text .entry)) (r .state) I (now (statements .entry)) (now (operands .exit)) A ≡ run (stands (now (text .entry)) s I (now (statements .entry)) (now (operands .entry)) A) R.phiSide) ⌝ }
 {
-    let b = names::block(text, token(text, s), statements);
+    let b = names::block(text, token(text, s), statements, index);
     let row = b.value;
     let t = further_operands(
         text,
         b.state,
         statements,
+        index,
         operands,
         number_at(statements, row),
     );
@@ -79,14 +82,23 @@ fn instruction_side(
     text: &[u8],
     s: State,
     statements: &[u32],
+    index: &[u16],
     operands: &mut [u32],
     k: usize,
 ) -> Sided
     requires { ⌜ length (now text) ≤ 65536 ⌝ }
     requires { ⌜ k < 59 ⌝ }
+    requires { ⌜ Ready (now text) s (now statements) (now index) ⌝ }
     ensures { λ r. ⌜ ((I : List ℕ) (A : List ℕ) → out (r .side) (now (text .entry)) (r .state) I (now (statements .entry)) (now (operands .exit)) A ≡ run (stands (now (text .entry)) s I (now (statements .entry)) (now (operands .entry)) A) (R.instructionSide k)) ⌝ }
 {
-    let t = operands_of(text, token(text, s), statements, operands, arity(k) as u32);
+    let t = operands_of(
+        text,
+        token(text, s),
+        statements,
+        index,
+        operands,
+        arity(k) as u32,
+    );
     with_side(t, k as u32 + 1, 0, 0)
 }
 
@@ -106,11 +118,13 @@ fn side_of(
     text: &[u8],
     s: State,
     statements: &[u32],
+    index: &[u16],
     operands: &mut [u32],
     k: u8,
     i: usize,
 ) -> Sided
     requires { ⌜ length (now text) ≤ 65536 ⌝ }
+    requires { ⌜ Ready (now text) s (now statements) (now index) ⌝ }
     ensures { λ r. ⌜ ((I : List ℕ) (A : List ℕ) → out (r .side) (now (text .entry)) (r .state) I (now (statements .entry)) (now (operands .exit)) A ≡ run (stands (now (text .entry)) s I (now (statements .entry)) (now (operands .entry)) A) (R.sideOf k i)) ⌝ }
 {
     if k == keyword::VAR {
@@ -120,7 +134,7 @@ fn side_of(
         return block_side(text, s);
     }
     if k == keyword::PHI {
-        return phi_side(text, s, statements, operands);
+        return phi_side(text, s, statements, index, operands);
     }
     if k == keyword::RESERVEDINST {
         return plain_side(text, s, k);
@@ -129,19 +143,26 @@ fn side_of(
         return plain_side(text, s, k);
     }
     if i < 59 {
-        return instruction_side(text, s, statements, operands, i);
+        return instruction_side(text, s, statements, index, operands, i);
     }
     let last = s.last;
     with_side(refuse(s, fault::TOKEN, last), 0, 0, 0)
 }
 
-pub fn assignment_rhs(text: &[u8], s: State, statements: &[u32], operands: &mut [u32]) -> Sided
+pub fn assignment_rhs(
+    text: &[u8],
+    s: State,
+    statements: &[u32],
+    index: &[u16],
+    operands: &mut [u32],
+) -> Sided
     requires { ⌜ length (now text) ≤ 65536 ⌝ }
+    requires { ⌜ Ready (now text) s (now statements) (now index) ⌝ }
     ensures { λ r. ⌜ ((I : List ℕ) (A : List ℕ) → out (r .side) (now (text .entry)) (r .state) I (now (statements .entry)) (now (operands .exit)) A ≡ run (stands (now (text .entry)) s I (now (statements .entry)) (now (operands .entry)) A) R.assignmentRhs) ⌝ }
 {
     let t = lookahead(text, s);
     let spot = t.ahead;
     let i = instruction_at(text, spot);
     let k = keyword_beside(text, spot, i);
-    side_of(text, t, statements, operands, k, i)
+    side_of(text, t, statements, index, operands, k, i)
 }

@@ -2,6 +2,7 @@
 use crate::attributes::attributes_of;
 use crate::operands::operand;
 use crate::sides::assignment_rhs;
+use index::hold;
 use parser::expect;
 use parser::int_32;
 use parser::keyword_at;
@@ -27,23 +28,27 @@ ghost use Rattle.rules.specs.Reading as R;
 ghost use Rattle.rules.specs.Keywords as word;
 ghost use Rattle.rules.specs.Tokens.{valName};
 ghost use Rattle.tables.specs.Stands.{stands, run};
+ghost use Rattle.index.specs.Ready.{Ready};
 
 // A name, its type if any, '=', the right side and attributes; the name enters scope with the row.
 fn assignment(
     text: &[u8],
     s: State,
     statements: &mut [u32],
+    index: &[u16],
     operands: &mut [u32],
     attributes: &mut [u32],
 ) -> State
     requires { ⌜ length (now text) ≤ 65536 ⌝ }
+    requires { ⌜ Ready (now text) s (now statements) (now index) ⌝ }
     ensures { λ r. ⌜ ((I : List ℕ) → stands (now (text .entry)) r I (now (statements .exit)) (now (operands .exit)) (now (attributes .exit)) ≡ run (stands (now (text .entry)) s I (now (statements .entry)) (now (operands .entry)) (now (attributes .entry))) R.assignment) ⌝ }
+    ensures { λ r. ⌜ Ready (now (text .entry)) r (now (statements .exit)) (now (index .entry)) ⌝ }
 {
-    let n = names::new_name(text, s, statements);
+    let n = names::new_name(text, s, statements, index);
     let name = n.last;
     let t = type_if_any(text, n);
     let e = expect(text, t.state, kind::EQ);
-    let r = assignment_rhs(text, e, statements, operands);
+    let r = assignment_rhs(text, e, statements, index, operands);
     let right = r.state;
     let side = r.side;
     let a = attributes_of(text, right, attributes);
@@ -76,16 +81,19 @@ fn condition(
     text: &[u8],
     s: State,
     statements: &mut [u32],
+    index: &[u16],
     operands: &mut [u32],
     code: u32,
     number: u32,
     block: u32,
 ) -> State
     requires { ⌜ length (now text) ≤ 65536 ⌝ }
+    requires { ⌜ Ready (now text) s (now statements) (now index) ⌝ }
     ensures { λ r. ⌜ ((I : List ℕ) (A : List ℕ) → stands (now (text .entry)) r I (now (statements .exit)) (now (operands .exit)) A ≡ run (stands (now (text .entry)) s I (now (statements .entry)) (now (operands .entry)) A) (R.condition code number block)) ⌝ }
+    ensures { λ r. ⌜ Ready (now (text .entry)) r (now (statements .exit)) (now (index .entry)) ⌝ }
 {
-    let x = operand(text, s, statements, operands);
-    let y = operand(text, x, statements, operands);
+    let x = operand(text, s, statements, index, operands);
+    let y = operand(text, x, statements, index, operands);
     claim_statement(
         y,
         statements,
@@ -108,25 +116,36 @@ fn condition(
 }
 
 // `pc` and a condition.
-fn pc(text: &[u8], s: State, statements: &mut [u32], operands: &mut [u32]) -> State
+fn pc(text: &[u8], s: State, statements: &mut [u32], index: &[u16], operands: &mut [u32]) -> State
     requires { ⌜ length (now text) ≤ 65536 ⌝ }
+    requires { ⌜ Ready (now text) s (now statements) (now index) ⌝ }
     ensures { λ r. ⌜ ((I : List ℕ) (A : List ℕ) → stands (now (text .entry)) r I (now (statements .exit)) (now (operands .exit)) A ≡ run (stands (now (text .entry)) s I (now (statements .entry)) (now (operands .entry)) A) R.pc) ⌝ }
+    ensures { λ r. ⌜ Ready (now (text .entry)) r (now (statements .exit)) (now (index .entry)) ⌝ }
 {
     let t = token(text, s);
-    condition(text, t, statements, operands, code::PC, 0, 0)
+    condition(text, t, statements, index, operands, code::PC, 0, 0)
 }
 
 // `blockpc`, a block in scope, a number and a condition.
-fn blockpc(text: &[u8], s: State, statements: &mut [u32], operands: &mut [u32]) -> State
+fn blockpc(
+    text: &[u8],
+    s: State,
+    statements: &mut [u32],
+    index: &[u16],
+    operands: &mut [u32],
+) -> State
     requires { ⌜ length (now text) ≤ 65536 ⌝ }
+    requires { ⌜ Ready (now text) s (now statements) (now index) ⌝ }
     ensures { λ r. ⌜ ((I : List ℕ) (A : List ℕ) → stands (now (text .entry)) r I (now (statements .exit)) (now (operands .exit)) A ≡ run (stands (now (text .entry)) s I (now (statements .entry)) (now (operands .entry)) A) R.blockpc) ⌝ }
+    ensures { λ r. ⌜ Ready (now (text .entry)) r (now (statements .exit)) (now (index .entry)) ⌝ }
 {
-    let b = names::block(text, token(text, s), statements);
+    let b = names::block(text, token(text, s), statements, index);
     let n = int_32(text, b.state);
     condition(
         text,
         n.state,
         statements,
+        index,
         operands,
         code::BLOCKPC,
         n.value,
@@ -154,21 +173,25 @@ fn statement(
     text: &[u8],
     s: State,
     statements: &mut [u32],
+    index: &mut [u16],
     operands: &mut [u32],
     attributes: &mut [u32],
 ) -> State
     requires { ⌜ length (now text) ≤ 65536 ⌝ }
+    requires { ⌜ Ready (now text) s (now statements) (now index) ⌝ }
     ensures { λ r. ⌜ ((I : List ℕ) → stands (now (text .entry)) r I (now (statements .exit)) (now (operands .exit)) (now (attributes .exit)) ≡ run (stands (now (text .entry)) s I (now (statements .entry)) (now (operands .entry)) (now (attributes .entry))) R.statement) ⌝ }
+    ensures { λ r. ⌜ Ready (now (text .entry)) r (now (statements .exit)) (now (index .exit)) ⌝ }
 {
+    hold(text, statements, index, s.scope, s.statements);
     let t = lookahead(text, s);
     let spot = t.ahead;
     if spot.kind == kind::VAL_NAME {
-        return assignment(text, t, statements, operands, attributes);
+        return assignment(text, t, statements, index, operands, attributes);
     }
     if keyword_at(text, spot) == keyword::PC {
-        return pc(text, t, statements, operands);
+        return pc(text, t, statements, index, operands);
     }
-    blockpc(text, t, statements, operands)
+    blockpc(text, t, statements, index, operands)
 }
 
 // Statements, as many as come one after another.
@@ -176,15 +199,18 @@ pub fn statements_of(
     text: &[u8],
     s: State,
     statements: &mut [u32],
+    index: &mut [u16],
     operands: &mut [u32],
     attributes: &mut [u32],
 ) -> State
     requires { ⌜ length (now text) ≤ 65536 ⌝ }
+    requires { ⌜ Ready (now text) s (now statements) (now index) ⌝ }
     ensures { λ r. ⌜ ((I : List ℕ) → stands (now (text .entry)) r I (now (statements .exit)) (now (operands .exit)) (now (attributes .exit)) ≡ run (stands (now (text .entry)) s I (now (statements .entry)) (now (operands .entry)) (now (attributes .entry))) R.statements) ⌝ }
+    ensures { λ r. ⌜ Ready (now (text .entry)) r (now (statements .exit)) (now (index .exit)) ⌝ }
 {
     let mut t = lookahead(text, s);
     while statement_ahead(text, t) {
-        t = statement(text, t, statements, operands, attributes);
+        t = statement(text, t, statements, index, operands, attributes);
         t = lookahead(text, t);
     }
     t

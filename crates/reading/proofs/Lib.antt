@@ -2,7 +2,9 @@
 -- How a rule ends, and what rules are made of.
 pub mod Ends
 pub mod Parts
+pub mod Went
 -- Rows claimed by each rule, the law of a repeated rule, and the loops of the reader's code.
+pub mod Does
 pub mod Claims
 pub mod Many
 pub mod Loops

@@ -20,7 +20,9 @@ use Rattle.tables.proofs.Steps as step
 use Rattle.laws.proofs.Cases.{by-cases}
 use Rattle.laws.proofs.Tests.{and-right}
 use Rattle.reading.proofs.Ends.{gone}
-use Rattle.reading.proofs.Claims.{Adds, Does, Keeps, Claims, lookahead-keeps, openParenAhead-keeps, statementAhead-keeps, itemAhead-keeps, attribute-claims, rootAttribute-claims, statement-claims, itemOf-claims}
+use Rattle.reading.proofs.Went.{goes-on}
+use Rattle.reading.proofs.Does.{Does}
+use Rattle.reading.proofs.Claims.{Adds, Adding, Keeps, Claims, lookahead-keeps, openParenAhead-keeps, statementAhead-keeps, itemAhead-keeps, attribute-claims, rootAttribute-claims, statement-claims, itemOf-claims}
 use Rattle.reading.proofs.Many.{many-turn}
 
 -- two rules that do the same everywhere
@@ -147,21 +149,11 @@ falls f n f′ n′ e k =
     (λ h. let c = k (eqb-true _ _ h) in rw h (omega arith))
     (λ h. rw h (omega arith)))
 
-faulty : {B : Type 0} (p : P B) (text : List ℕ) (t : State) (I S O A : List ℕ) → eqb (t .fault) 0 ≡ false → run (stands text t I S O A) p ≡ stop (t .fault) (t .last)
-unfolding out run
-faulty p text t I S O A e = rw e
-
--- where a call answers without fault, it was lent a state without fault, and has claimed what its rule claims
-added : {of : Tables → Table} {k : ℕ} {B : Type 0} {p : P B} → Does of k p → (text : List ℕ) (t u : State) (I S O A I′ S′ O′ A′ : List ℕ) (b : B) → out b text u I′ S′ O′ A′ ≡ run (stands text t I S O A) p → u .fault ≡ 0
+added : {of : Tables → Table} {k : ℕ} {B : Type 0} {p : P B} → Does (Adding of) k p → (text : List ℕ) (t u : State) (I S O A I′ S′ O′ A′ : List ℕ) (b : B) → out b text u I′ S′ O′ A′ ≡ run (stands text t I S O A) p → u .fault ≡ 0
     → (t .fault ≡ 0) × Adds k (of (world text t I S O A .tables)) (of (world text u I′ S′ O′ A′ .tables))
 added {p = p} d text t u I S O A I′ S′ O′ A′ b e ok =
-    let here : out b text u I′ S′ O′ A′ ≡ go b (world text u I′ S′ O′ A′) = step.going text u I′ S′ O′ A′ b _ ok refl in
-    by-cases (eqb (t .fault) 0)
-    (λ h.
-    let fine : t .fault ≡ 0 = eqb-true _ _ h in
-    let went : p (world text t I S O A) ≡ go b (world text u I′ S′ O′ A′) = sym (step.goes text t I S O A p fine) ∙ sym e ∙ here in
-    (fine, gone (rw went at (d .by (world text t I S O A)))))
-    (λ h. absurd (let z : _≡_ {A = ℕ} 0 1 = cc (faulty p text t I S O A h) in let y : ⊥ = omega arith in y))
+    let g = goes-on p text t u I S O A I′ S′ O′ A′ b e ok in
+    (g .fine, gone (rw (g .went) at (d .by (world text t I S O A))) .adds)
 
 -- a table whose rows a state counts
 record Counted (of : Tables → Table) (rows : State → ℕ) : Type 0 where

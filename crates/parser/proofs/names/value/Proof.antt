@@ -4,6 +4,8 @@ use borrow.Author.Needs.{needs}
 use Rattle.rules.specs.Reading as R
 use Rattle.tables.proofs.Chains as chain
 use Rattle.tables.proofs.Steps as step
+use Rattle.index.proofs.Steady.{expect-steady}
+use Rattle.index.proofs.Reader.{ready-kept}
 use Rattle.parser.proofs.Scope.{answered}
 use Rattle.parser.proofs.names.value.Statement.{statement}
 use Rattle.parser.proofs.names.value.Tie as tie
@@ -27,17 +29,27 @@ returns : tie.Need-returns
 unfolding R.value R.known
 returns c I O A =
     let d = c .before .before .before in
-    let S = d .before .before .before .before .before .args .statements .now in
-    chain.then _ _ _ _ _ _ _ _ _ _ _ (d .before .before .expect .ensures I S O A)
-    (answered _ _ I S O A _ R.known _ (d .in-scope .ensures I O A) (c .before .r .given .1) (chain.given _ _ I S O A _))
+    let x = d .before .before in
+    let z = x .before .before .before .before in
+    let a = z .args in
+    let S = a .statements .now in
+    let e = x .expect .ensures I S O A in
+    let k = ready-kept (expect-steady _) _ _ _ I S O A I O A (a .index .now) _ e (z .pre .1) in
+    chain.then _ _ _ _ _ _ _ _ _ _ _ e
+    (answered _ _ I S O A _ R.known _ (λ ok. d .in-scope .ensures (k .holds ok) I O A) (c .before .r .given .1) (chain.given _ _ I S O A _))
 
 returns-2 : tie.Need-returns-2
 unfolding R.value R.known
 returns-2 c I O A =
     let d = c .before .before .before in
-    let S = d .before .before .before .before .before .args .statements .now in
-    chain.then _ _ _ _ _ _ _ _ _ _ _ (d .before .before .expect .ensures I S O A)
-    (answered _ _ I S O A _ R.known _ (d .in-scope .ensures I O A) (c .before .enum-told .given .1)
+    let x = d .before .before in
+    let z = x .before .before .before .before in
+    let a = z .args in
+    let S = a .statements .now in
+    let e = x .expect .ensures I S O A in
+    let k = ready-kept (expect-steady _) _ _ _ I S O A I O A (a .index .now) _ e (z .pre .1) in
+    chain.then _ _ _ _ _ _ _ _ _ _ _ e
+    (answered _ _ I S O A _ R.known _ (λ ok. d .in-scope .ensures (k .holds ok) I O A) (c .before .enum-told .given .1)
     (step.refused _ _ I S O A _ _ _ _ (c .refuse .ensures _ I S O A)))
 
 pub value-spec : {M : Type 1} → statement M

@@ -1,7 +1,7 @@
 -- `reader::operands::named` meets its contract.
 -- Assumes nothing.
 use Prim.Native.Nat.{ℕ}
-use mathlib.Core.Path.{_≡_, refl, sym, ap, _∙_}
+use mathlib.Core.Path.{_≡_, sym, _∙_}
 use borrow.Author.Needs.{needs}
 use Rattle.rules.specs.declared.Row.{Row}
 use Rattle.rules.specs.declared.Spot.{Spot}
@@ -12,6 +12,8 @@ use Rattle.rules.specs.World.{Res, P, _>>=_, asks, claimOperand}
 use Rattle.tables.specs.Stands.{run}
 use Rattle.tables.proofs.Chains as chain
 use Rattle.parser.proofs.Scope.{answered}
+use Rattle.index.proofs.Steady.{expect-steady}
+use Rattle.index.proofs.Reader.{ready-kept}
 use Rattle.reader.proofs.Commas.{run-run}
 use Rattle.reader.proofs.operands.named.Statement.{statement}
 use Rattle.reader.proofs.operands.named.Tie as tie
@@ -52,19 +54,25 @@ returns : tie.Need-returns
 unfolding R.known
 returns c I A =
     let d = c .before .before .before .before .before .before .before in
-    let a = d .before .before .before .before .before .before .args in
+    let z = d .before .before .before .before .before .before .before in
+    let a = z .args in
+    let e = d .before .before .expect .ensures I (a .statements .now) (a .operands .now) A in
+    let k = ready-kept (expect-steady _) _ _ _ I (a .statements .now) (a .operands .now) A I (a .operands .now) A (a .index .now) _ e (z .pre .1) in
     by-steps _ _
-    (chain.then _ _ I _ _ A _ _ _ _ _ (d .before .before .expect .ensures I (a .statements .now) (a .operands .now) A)
-    (answered _ _ I _ _ A _ claimed _ (d .in-scope .ensures I (a .operands .now) A) (c .before .before .before .before .before .row .given .1) (c .before .before .claim-operand .ensures _ I _ A)))
+    (chain.then _ _ I _ _ A _ _ _ _ _ e
+    (answered _ _ I _ _ A _ claimed _ (λ ok. d .in-scope .ensures (k .holds ok) I (a .operands .now) A) (c .before .before .before .before .before .row .given .1) (c .before .before .claim-operand .ensures _ I _ A)))
 
 returns-2 : tie.Need-returns-2
 unfolding R.known
 returns-2 c I A =
     let d = c .before .before .before in
-    let a = d .before .before .before .before .before .before .args in
+    let z = d .before .before .before .before .before .before .before in
+    let a = z .args in
+    let e = d .before .before .expect .ensures I (a .statements .now) (a .operands .now) A in
+    let k = ready-kept (expect-steady _) _ _ _ I (a .statements .now) (a .operands .now) A I (a .operands .now) A (a .index .now) _ e (z .pre .1) in
     by-steps _ _
-    (chain.then _ _ I _ _ A _ _ _ _ _ (d .before .before .expect .ensures I (a .statements .now) (a .operands .now) A)
-    (answered _ _ I _ _ A _ claimed _ (d .in-scope .ensures I (a .operands .now) A) (c .before .enum-told .given .1) (c .refuse .ensures _ I _ _ A)))
+    (chain.then _ _ I _ _ A _ _ _ _ _ e
+    (answered _ _ I _ _ A _ claimed _ (λ ok. d .in-scope .ensures (k .holds ok) I (a .operands .now) A) (c .before .enum-told .given .1) (c .refuse .ensures _ I _ _ A)))
 
 pub named-spec : {M : Type 1} → statement M
 named-spec =

@@ -1,22 +1,13 @@
-use Rattle.reader.proofs.Counts as counts
-use mathlib.Core.Path.{_≡_, refl, sym, ap, _∙_}
+use mathlib.Core.List.{[]}
+use Rattle.index.proofs.Steady.{token-steady}
+use Rattle.index.proofs.Reader.{ready-kept}
 use native.Mathlib.Omega.{arith}
-use borrow.Author.Tests.{eq-eqb, ne-eqb}
 use Rattle.rules.specs.Reading as R
-use Rattle.rules.specs.World as W
-use Rattle.tables.specs.Stands.{world, out, run}
-use Rattle.tables.proofs.Steps as step
 use Rattle.tables.proofs.Chains as chain
 use Rattle.laws.proofs.Names.{arity-few}
 use borrow.Author.Needs.{needs}
 use Rattle.reader.proofs.sides.instruction_side.Statement.{statement}
 use Rattle.reader.proofs.sides.instruction_side.Tie as tie
-use Rattle.reader.proofs.sides.instruction_side.Reads as reads
-use Rattle.reader.proofs.sides.instruction_side.Lts as lts
-use Rattle.instructions.proofs.arity.Reads as arity-reads
-use Rattle.parser.proofs.token.Reads as token-reads
-use Rattle.reader.proofs.operands.operands_of.Reads as operands-of-reads
-use Rattle.reader.proofs.sides.with_side.Reads as with-side-reads
 
 token-requires : tie.Need-token-requires
 token-requires c κs = search needs
@@ -25,10 +16,15 @@ arity-requires : tie.Need-arity-requires
 arity-requires c κs = search needs
 
 cast-operands-of : tie.Need-cast-operands-of
-cast-operands-of c = omega (arith, arity-few (c .before .before .before .before .before .before .args .k) (search needs), c .arity .ensures)
+cast-operands-of c = omega (arith, arity-few (c .before .before .before .before .before .before .before .args .k) (search needs), c .arity .ensures)
 
 operands-of-requires : tie.Need-operands-of-requires
-operands-of-requires c κs = search needs
+operands-of-requires c κs =
+    let l = c .before .before in
+    let z = l .before .before .before .before .before in
+    let S = z .args .statements .now in
+    let O = z .args .operands .now in
+    (z .pre .0, ready-kept token-steady _ _ _ [] S O [] [] O [] (z .args .index .now) _ (l .token .ensures [] S O []) (z .pre .1 .1))
 
 cast-with-side : tie.Need-cast-with-side
 cast-with-side c = search needs
@@ -45,7 +41,7 @@ same-length c = search needs
 returns : tie.Need-returns
 unfolding R.instructionSide
 returns c I A =
-    chain.then _ _ _ _ _ _ _ _ _ _ _ (c .before .before .before .before .before .before .token .ensures I (c .before .before .before .before .before .before .before .before .before .before .args .statements .now) (c .before .before .before .before .before .before .before .before .before .before .args .operands .now) A)
+    chain.then _ _ _ _ _ _ _ _ _ _ _ (c .before .before .before .before .before .before .token .ensures I (c .before .before .before .before .before .before .before .before .before .before .before .args .statements .now) (c .before .before .before .before .before .before .before .before .before .before .before .args .operands .now) A)
     (rw (← (c .before .before .before .before .arity .ensures)) (chain.then _ _ _ _ _ _ _ _ _ _ _ (c .before .before .before .operands-of .ensures I A) (c .with-side .ensures _ I _ _ A)))
 
 pub instruction-side-spec : {M : Type 1} → statement M

@@ -1,4 +1,4 @@
--- `parser::names::find_row` meets its contract. While it looks at candidates, what it answers is what a search from here answers;
+-- `along` meets its contract. While it looks at candidates, what it answers is what a search from here answers;
 -- while it compares letters, from the last to the first, those from here on are the same.
 -- Assumes nothing.
 use Prim.Native.Nat.{_≤_, _+_, _-_}
@@ -10,13 +10,12 @@ use lib.ListN.{length, drop, getD}
 use borrow.Author.Needs.{needs}
 use borrow.Author.Tests.{eq-eqb}
 use Rattle.rules.specs.Bytes.{same}
-use Rattle.rules.specs.Rows.{nameAt}
 use Rattle.rules.specs.Reading.{findRow}
 use Rattle.laws.proofs.Runs.{same-more, same-end, same-long}
 use Rattle.laws.proofs.Tests.{and-true}
-use Rattle.parser.proofs.Scope.{compared, differ, found-here, not-here, none-left}
-use Rattle.parser.proofs.names.find_row.Statement.{statement}
-use Rattle.parser.proofs.names.find_row.Tie as tie
+use Rattle.index.proofs.Search.{compared, differ, found-here, not-here, none-left}
+use Rattle.index.proofs.along.Statement.{statement}
+use Rattle.index.proofs.along.Tie as tie
 
 abbrev Inv-loop : tie.InvT-loop
 Inv-loop text statements name first past i other j₀ j =
@@ -108,8 +107,8 @@ returns c =
 returns-2 : tie.Need-returns-2 Inv-loop μ-loop Inv-candidates μ-candidates
 returns-2 c = sym (c .before .candidates .inv ∙ none-left _ _ _ _ _ (search needs))
 
-pub find-row-spec : {M : Type 1} → statement M
-find-row-spec =
+pub along-spec : {M : Type 1} → statement M
+along-spec =
     tie.close
     (tie.spec
     Inv-loop
