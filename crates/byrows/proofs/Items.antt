@@ -127,7 +127,7 @@ module _ (text S O A : List ℕ) (s : ℕ) (so : Sound S O s) (x : Item) (h : Wh
   abbrev r : ℕ → List ℕ
   r = refers S O s
 
-  scope-rows : scope (asItem text S O A x) ≡ scopeOf say lo (hi - lo)
+  pub scope-rows : scope (asItem text S O A x) ≡ scopeOf say lo (hi - lo)
   unfolding asItem
   scope-rows =
       ap (onto (along say (x .middle upTo hi))) (onto-each say lo (x .middle - lo) 0 lo (sym (add-zero lo)))

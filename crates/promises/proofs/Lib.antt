@@ -8,10 +8,12 @@ pub mod EveryCall
 pub mod Exactly
 -- Demand 2.
 pub mod AsTheCrate
+pub mod Sentences
 -- Demand 3.
 pub mod Canonical
 pub mod Lines
 pub mod Listing
+pub mod Taken
 pub mod ReadingBack
 -- What the contracts are held to.
 pub mod Witnesses

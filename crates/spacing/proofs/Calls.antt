@@ -19,10 +19,11 @@ use Rattle.rules.specs.View.{itemsOf}
 use Rattle.rules.specs.Printing.{printedAll}
 use Rattle.rules.specs.World.{Tables}
 use Rattle.rules.specs.Answers.{Lent, lent, Outcome, accepted, answerOf, Reads, reading}
+use Rattle.rules.specs.Tokens.{nth}
 use Rattle.simulation.proofs.Said.{itemsIn}
 use Rattle.simulation.proofs.Left.{left-say}
 use Rattle.simulation.proofs.Calls.{same-tables}
-use Rattle.spacing.proofs.TokenList.{nth, tokensOf}
+use Rattle.spacing.proofs.TokenList.{tokensOf}
 use Rattle.spacing.proofs.SpacingIsNothing.{SameOutcome, both-accepted, both-at-token, both-at-fault, both-at-end, spacing-is-nothing}
 
 -- a call: the text, the tables lent to it, its answer, and the tables as it left them
