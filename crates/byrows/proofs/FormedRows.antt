@@ -76,7 +76,7 @@ refers-to S lo hi j e =
       so = assigning-code (statementAt S j .code) (and-right (a && b) c e);
     }
 
-refers-block : (S : List ℕ) (lo hi j : ℕ) → refersToBlock S lo hi j ≡ true → Refers S lo hi j
+pub refers-block : (S : List ℕ) (lo hi j : ℕ) → refersToBlock S lo hi j ≡ true → Refers S lo hi j
 unfolding refersToBlock among
 refers-block S lo hi j e =
     let a : Bool = leb lo j in

@@ -73,7 +73,7 @@ module _ (text S O A : List ℕ) (x : Item) where
   abbrev afterBoth : syntax.Closing
   afterBoth = cond (is candidate) byCand afterCand
 
-  first-names : syntax.firstRoots (asClosing text S O A x) ≡ map name (firstRoots O x)
+  pub first-names : syntax.firstRoots (asClosing text S O A x) ≡ map name (firstRoots O x)
   unfolding asClosing firstRoots
   first-names =
       by-cases (is inferResult)
@@ -92,7 +92,7 @@ module _ (text S O A : List ℕ) (x : Item) where
       rows₁ : List ℕ
       rows₁ = cond (is candidate) (named O at 2) rows₂
 
-  second-names : syntax.secondRoots (asClosing text S O A x) ≡ map name (secondRoots O x)
+  pub second-names : syntax.secondRoots (asClosing text S O A x) ≡ map name (secondRoots O x)
   unfolding asClosing secondRoots
   second-names =
       by-cases (is inferResult)

@@ -15,10 +15,10 @@ use Rattle.rules.specs.declared.Answer.the-variants as answer
 use Rattle.rules.specs.Rows.{itemLength, statementLength, operandLength, attributeLength}
 use Rattle.rules.specs.Answers.{Lent, lent, Outcome, accepted, refusal, answerOf, rowsOf, padded, Reads, reading, reportOf, readReport, refusalReport}
 use Rattle.rules.specs.Calls.{AsManyRows}
-use Rattle.promises.specs.Rows.{rowForEachByte, answerTo, IsNotSeven, RowsFit, SameRows}
+use Rattle.promises.specs.Rows.{rowForEachByte, answerTo, IsNotSeven, RowsFit, NoShorter, SameRows}
 use Rattle.laws.proofs.Cases.{by-cases}
 use Rattle.reading.proofs.Progress as progress
-use Rattle.reading.proofs.Capacity.{Below, NotSeven, Same, room, longer, seven-over, same-whatever-lent}
+use Rattle.reading.proofs.Capacity.{Below, NotSeven, Same, room, longer, seven-over, same-unless-seven, same-whatever-lent}
 use Rattle.reading.proofs.Fitting.{accepted-fits}
 use Rattle.simulation.proofs.AsManyRows.{never-seven, same-answer}
 use Rattle.simulation.proofs.Calls.{refused-seven, call-never-seven, told-read, answered}
@@ -71,6 +71,11 @@ module _ (e : Entry) (text : List ℕ) {I S O A : List ℕ} {r : Answer} {I′ S
 
     pub same-whatever-attributes : SameRows (length A) (length A₁) A′ A₁′
     same-whatever-attributes = record { rows = rowsOf (λ t. t .attributes) (reading e text (lent I S O A)); one = h .leaves .attributes; other = h₁ .leaves .attributes ∙ ap (padded (length A₁)) (sym (alike .attributes)) }
+
+  -- Tables no shorter change nothing, unless the answer is 7.
+  pub same-if-longer : {I₁ S₁ O₁ A₁ : List ℕ} {r₁ : Answer} {I₁′ S₁′ O₁′ A₁′ : List ℕ} → Reads e text I₁ S₁ O₁ A₁ r₁ I₁′ S₁′ O₁′ A₁′ → NoShorter (lent I S O A) (lent I₁ S₁ O₁ A₁) → IsNotSeven r → reportOf r ≡ reportOf r₁
+  same-if-longer {I₁} {S₁} {O₁} {A₁} h₁ n k =
+      ap reportOf (h .answers ∙ same-unless-seven e text (lent I S O A) (lent I₁ S₁ O₁ A₁) (longer (lent I S O A) (lent I₁ S₁ O₁ A₁) (n .items) (n .statements) (n .operands) (n .attributes)) (not-seven (h .answers) k) .answers ∙ sym (h₁ .answers))
 
   -- ---- rows that fit, and rows that do not
   -- the words lent, and no fewer than as many rows need

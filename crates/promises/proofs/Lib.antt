@@ -11,6 +11,7 @@ pub mod AsTheCrate
 pub mod Sentences
 -- Demand 3.
 pub mod Canonical
+pub mod CanonicalTables
 pub mod Lines
 pub mod Listing
 pub mod Taken

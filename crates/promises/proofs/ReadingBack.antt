@@ -21,8 +21,8 @@ use Rattle.rules.specs.World.{Table, Tables}
 use Rattle.rules.specs.Answers.{lent, Outcome, reading, answerOf, rowsOf, padded, Reads, reportOf, readReport, printReport}
 use Rattle.rules.specs.Prints.{wordsNeeded}
 use Rattle.rules.specs.Calls.{AsManyRows, Call, saidBy, countsOf, PrintsOf, Print, written}
-use Rattle.promises.specs.Rows.{answerTo, RowsFit}
-use Rattle.promises.specs.Back.{ReadsBack, NoShorter}
+use Rattle.promises.specs.Rows.{answerTo, RowsFit, NoShorter}
+use Rattle.promises.specs.Back.{ReadsBack}
 use Rattle.bynames.proofs.Reader as names
 use Rattle.bynames.proofs.ReadingBack as by-names
 use Rattle.bynames.proofs.BackLists.{Readable, canons, print-read}
@@ -30,6 +30,7 @@ use Rattle.bynames.proofs.AcceptedItems.{accepted-readable}
 use Rattle.simulation.proofs.Items.{entryOf}
 use Rattle.simulation.proofs.Calls.{call-lists, call-reads-back, report-read}
 use Rattle.grammar.proofs.Calls.{read-sentence, said-sentence}
+use Rattle.grammar.proofs.PrintedLength.{call-printed-length}
 use Rattle.promises.proofs.Calls.{report-printed, wrote-taken, accepted-wrote, enough-accepts, call-named, written-is, bytes-is}
 use Rattle.promises.proofs.AsTheCrate.{as-many-answer, fits-answer}
 use Rattle.promises.proofs.Taken.{call-fits, longer-fits, RowsWithin, canons-within}
@@ -40,6 +41,10 @@ pub always-prints : {e : Entry} (c : Call e) → (n : ℕ) × ((work output : Li
 always-prints c = (length (printedAll (saidBy c)), λ work output h k r work′ output′ p. ap reportOf (enough-accepts c h k p) ∙ report-printed (length (printedAll (saidBy c))))
 
 module _ {e : Entry} (p : Print e) where
+  -- A print has at most twice as many bytes as the text: so that of a text of 32,768 bytes or fewer reads back.
+  pub at-most-twice : p .bytes ≤ 2 * length (p .call .text)
+  at-most-twice = rw (bytes-is p) (call-printed-length (p .call))
+
   -- a read call on the text that p wrote, whose tables print to the same
   prints-again : (d : Call e) → printedAll (saidBy d) ≡ printedAll (saidBy (p .call)) → (work output : List ℕ) → wordsNeeded (countsOf d) ≤ length work → length (written p) ≤ length output
       → (r : Answer) (work′ output′ : List ℕ) → PrintsOf d work output r work′ output′ → (reportOf r ≡ printReport (length (written p))) × (take (length (written p)) output′ ≡ written p)

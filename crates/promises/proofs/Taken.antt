@@ -12,8 +12,7 @@ use Rattle.rules.specs.Syntax.{Statement, Closing, Item}
 use Rattle.rules.specs.Meaning.{Mem}
 use Rattle.rules.specs.Answers.{Lent, lent, accepted, answerOf}
 use Rattle.rules.specs.Calls.{Call, countsOf, saidBy}
-use Rattle.promises.specs.Rows.{RowsFit}
-use Rattle.promises.specs.Back.{NoShorter}
+use Rattle.promises.specs.Rows.{RowsFit, NoShorter}
 use Rattle.reading.proofs.Fitting.{accepted-fits}
 use Rattle.bynames.proofs.BackLists.{canons}
 use Rattle.bynames.proofs.Listed.{Lists}

@@ -10,7 +10,7 @@ use Rattle.rules.specs.Syntax.{Item}
 use Rattle.rules.specs.Meaning.{SameMeanings}
 use Rattle.rules.specs.Grammar.{Sentence}
 use Rattle.rules.specs.WellFormed.{counts}
-use Rattle.rules.specs.Answers.{Lent, reportOf, readReport, printReport}
+use Rattle.rules.specs.Answers.{reportOf, readReport, printReport}
 use Rattle.rules.specs.Prints.{wordsNeeded, Prints}
 
 -- s is the printed text, and xs are the items of the text that was printed
@@ -31,10 +31,3 @@ module _ (e : Entry) (xs : List Item) (s : List ℕ) where
     pub sentence : Sentence e s again
     pub means : SameMeanings xs again
     pub prints : PrintsAgain I S O A items statements operands attributes
-
--- tables with no fewer words than others
-pub record NoShorter (l l′ : Lent) : Type 0 where
-  pub items : l .items ≤ l′ .items
-  pub statements : l .statements ≤ l′ .statements
-  pub operands : l .operands ≤ l′ .operands
-  pub attributes : l .attributes ≤ l′ .attributes

@@ -6,6 +6,7 @@ pub mod Ends
 pub mod Rows
 pub mod Accepts
 -- Demand 3.
+pub mod Tables
 pub mod Lines
 pub mod Back
 -- What the contracts are held to.

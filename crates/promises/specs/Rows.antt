@@ -39,3 +39,10 @@ pub record SameRows (n n₁ : ℕ) (T T₁ : List ℕ) : Type 0 where
   pub rows : List ℕ
   pub one : T ≡ padded n rows
   pub other : T₁ ≡ padded n₁ rows
+
+-- tables with no fewer words than others
+pub record NoShorter (l l′ : Lent) : Type 0 where
+  pub items : l .items ≤ l′ .items
+  pub statements : l .statements ≤ l′ .statements
+  pub operands : l .operands ≤ l′ .operands
+  pub attributes : l .attributes ≤ l′ .attributes

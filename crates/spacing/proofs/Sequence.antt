@@ -10,7 +10,7 @@ use Rattle.rules.specs.declared.Lexed.{Lexed}
 use Rattle.rules.specs.declared.Lexed.the-variants.{Found, End, Refused}
 use Rattle.rules.specs.Tokens.{tokenAt, next, onward, nth}
 use Rattle.laws.proofs.Tokens.{Lies, token-lies}
-use Rattle.spacing.proofs.TokenList.{Word, token, end, fault, wordOf, wordsFrom, tokensOf}
+use Rattle.spacing.specs.TokenList.{Word, token, end, fault, wordOf, wordsFrom, tokensOf}
 
 -- two texts whose tokens are the same, one by one
 abbrev pub Alike : List ℕ → List ℕ → Type 0

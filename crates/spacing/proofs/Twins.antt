@@ -21,7 +21,7 @@ use Rattle.rules.specs.Rows.{statementWords, attributeWords}
 use Rattle.rules.specs.Tokens.{tokenAt, nth}
 use Rattle.rules.specs.World.{Table, Tables, World, Res, go, stop, P, bind, _>>=_, _>>_, give, refuse, asks, scoped, claimItem, claimStatement, claimOperand, claimAttribute, repeated, many}
 use Rattle.rules.specs.Reading as R
-use Rattle.spacing.proofs.TokenList.{wordOf}
+use Rattle.spacing.specs.TokenList.{wordOf}
 use Rattle.spacing.proofs.Sequence.{sort, kindOf, lettersIn, Alike, nth-kind, nth-next}
 use Rattle.spacing.proofs.Lined.{Statements, Attributes, Lined, lined-more}
 
