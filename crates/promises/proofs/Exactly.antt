@@ -12,10 +12,10 @@ use Rattle.rules.specs.declared.Checked.the-variants.{WellFormed, IllFormed}
 use Rattle.rules.specs.declared.Entry.{Entry}
 use Rattle.rules.specs.declared.Answer.{Answer}
 use Rattle.rules.specs.Utf8.{checked}
-use Rattle.rules.specs.WellFormed.{Counts, wellFormed}
+use Rattle.rules.specs.WellFormed.{Counts}
 use Rattle.rules.specs.Answers.{Reads, reportOf, printReport, refusalReport}
 use Rattle.rules.specs.Prints.{wordsNeeded, printOf, Prints}
-use Rattle.promises.specs.Ends.{Placed, no-token, wrong-token, text-ended, bad-integer, bad-name, no-row, ReadEnd, read, too-long, ill-formed, refused, PrintEnd, not-well-formed, few-words, few-bytes, printed}
+use Rattle.promises.specs.Ends.{Placed, no-token, wrong-token, text-ended, bad-integer, bad-name, no-row, ReadEnd, read, too-long, ill-formed, refused, PrintEnd, not-well-formed, few-words, few-bytes, printed, NoTables, FewWords, FewBytes, Enough}
 use Rattle.promises.proofs.EveryCall.{every-read, every-print}
 
 -- ---- reads
@@ -61,39 +61,26 @@ module _ (text I S O A : List ℕ) (c : Counts) where
   abbrev s : List ℕ
   s = printOf text I S O A c
 
-  -- the four conditions
-  abbrev NoTables : Type 0
-  NoTables = wellFormed text I S O A c ≡ false
-
-  abbrev FewWords : List ℕ → Type 0
-  FewWords w = (wellFormed text I S O A c ≡ true) × (length w < wordsNeeded c)
-
-  abbrev FewBytes : List ℕ → List ℕ → Type 0
-  FewBytes w o = (wellFormed text I S O A c ≡ true) × (wordsNeeded c ≤ length w) × (length o < length s)
-
-  abbrev Enough : List ℕ → List ℕ → Type 0
-  Enough w o = (wellFormed text I S O A c ≡ true) × (wordsNeeded c ≤ length w) × (length s ≤ length o)
-
   module _ {w o : List ℕ} where
-    ends-eight : {r w′ o′ : List ℕ} → PrintEnd text I S O A c w o r w′ o′ → (r ≡ refusalReport 8 0) ↔ NoTables
+    ends-eight : {r w′ o′ : List ℕ} → PrintEnd text I S O A c w o r w′ o′ → (r ≡ refusalReport 8 0) ↔ NoTables text I S O A c
     ends-eight (not-well-formed bad) = (λ q. bad, λ k. refl)
     ends-eight (few-words ok few) = (λ q. absurd (let k : _≡_ {A = ℕ} 9 8 = cc in omega arith), λ bad. absurd (true≢false (sym ok ∙ bad)))
     ends-eight (few-bytes ok many few) = (λ q. absurd (let k : _≡_ {A = ℕ} 10 8 = cc in omega arith), λ bad. absurd (true≢false (sym ok ∙ bad)))
     ends-eight (printed ok many room) = (λ q. absurd (let k : _≡_ {A = ℕ} 0 8 = cc in omega arith), λ bad. absurd (true≢false (sym ok ∙ bad)))
 
-    ends-nine : {r w′ o′ : List ℕ} → PrintEnd text I S O A c w o r w′ o′ → (r ≡ refusalReport 9 (wordsNeeded c)) ↔ FewWords w
+    ends-nine : {r w′ o′ : List ℕ} → PrintEnd text I S O A c w o r w′ o′ → (r ≡ refusalReport 9 (wordsNeeded c)) ↔ FewWords text I S O A c w
     ends-nine (not-well-formed bad) = (λ q. absurd (let k : _≡_ {A = ℕ} 8 9 = cc in omega arith), λ k. absurd (true≢false (sym (k .0) ∙ bad)))
     ends-nine (few-words ok few) = (λ q. (ok, few), λ k. refl)
     ends-nine (few-bytes ok many few) = (λ q. absurd (let k : _≡_ {A = ℕ} 10 9 = cc in omega arith), λ k. absurd (omega (arith, k .1)))
     ends-nine (printed ok many room) = (λ q. absurd (let k : _≡_ {A = ℕ} 0 9 = cc in omega arith), λ k. absurd (omega (arith, k .1)))
 
-    ends-ten : {r w′ o′ : List ℕ} → PrintEnd text I S O A c w o r w′ o′ → (r ≡ refusalReport 10 (length s)) ↔ FewBytes w o
+    ends-ten : {r w′ o′ : List ℕ} → PrintEnd text I S O A c w o r w′ o′ → (r ≡ refusalReport 10 (length s)) ↔ FewBytes text I S O A c w o
     ends-ten (not-well-formed bad) = (λ q. absurd (let k : _≡_ {A = ℕ} 8 10 = cc in omega arith), λ k. absurd (true≢false (sym (k .0) ∙ bad)))
     ends-ten (few-words ok few) = (λ q. absurd (let k : _≡_ {A = ℕ} 9 10 = cc in omega arith), λ k. absurd (omega (arith, k .1)))
     ends-ten (few-bytes ok many few) = (λ q. (ok, many, few), λ k. refl)
     ends-ten (printed ok many room) = (λ q. absurd (let k : _≡_ {A = ℕ} 0 10 = cc in omega arith), λ k. absurd (omega (arith, k .2)))
 
-    ends-printed : {r w′ o′ : List ℕ} → PrintEnd text I S O A c w o r w′ o′ → (r ≡ printReport (length s)) ↔ Enough w o
+    ends-printed : {r w′ o′ : List ℕ} → PrintEnd text I S O A c w o r w′ o′ → (r ≡ printReport (length s)) ↔ Enough text I S O A c w o
     ends-printed (not-well-formed bad) = (λ q. absurd (let k : _≡_ {A = ℕ} 8 0 = cc in omega arith), λ k. absurd (true≢false (sym (k .0) ∙ bad)))
     ends-printed (few-words ok few) = (λ q. absurd (let k : _≡_ {A = ℕ} 9 0 = cc in omega arith), λ k. absurd (omega (arith, k .1)))
     ends-printed (few-bytes ok many few) = (λ q. absurd (let k : _≡_ {A = ℕ} 10 0 = cc in omega arith), λ k. absurd (omega (arith, k .2)))
@@ -101,14 +88,14 @@ module _ (text I S O A : List ℕ) (c : Counts) where
 
     module _ {r : Answer} {w′ o′ : List ℕ} (h : Prints text I S O A c w o r w′ o′) where
       -- 8 exactly where the tables are not well formed; 9 where they are, and the work area is too short; 10 where it is not, and the output is; else 0.
-      pub exactly-eight : (reportOf r ≡ refusalReport 8 0) ↔ NoTables
+      pub exactly-eight : (reportOf r ≡ refusalReport 8 0) ↔ NoTables text I S O A c
       exactly-eight = ends-eight (every-print text I S O A c h)
 
-      pub exactly-nine : (reportOf r ≡ refusalReport 9 (wordsNeeded c)) ↔ FewWords w
+      pub exactly-nine : (reportOf r ≡ refusalReport 9 (wordsNeeded c)) ↔ FewWords text I S O A c w
       exactly-nine = ends-nine (every-print text I S O A c h)
 
-      pub exactly-ten : (reportOf r ≡ refusalReport 10 (length s)) ↔ FewBytes w o
+      pub exactly-ten : (reportOf r ≡ refusalReport 10 (length s)) ↔ FewBytes text I S O A c w o
       exactly-ten = ends-ten (every-print text I S O A c h)
 
-      pub exactly-printed : (reportOf r ≡ printReport (length s)) ↔ Enough w o
+      pub exactly-printed : (reportOf r ≡ printReport (length s)) ↔ Enough text I S O A c w o
       exactly-printed = ends-printed (every-print text I S O A c h)

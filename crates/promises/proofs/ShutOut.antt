@@ -154,7 +154,7 @@ module _ (f : Printer) {e : Entry} (c : Call e) where
       (f .keeps (c .text) (c .I′) (c .S′) (c .O′) (c .A′) (countsOf c) w o))
 
   -- it writes the print, and no other bytes
-  pub writes-no-other : (s : List ℕ) → Writes f c s → bytesOf ≡ s
+  pub writes-no-other : (s : List ℕ) → Writes f c s → printedAll (saidBy c) ≡ s
   writes-no-other s h = sym (wrote-taken wrote-them) ∙ h w o (length bytesOf) (ap reportOf prints-them ∙ report-printed (length bytesOf))
 
 -- the text of one item is not as long as its print, which has a byte or more, and its first byte is not 0

@@ -72,6 +72,19 @@ module _ (text I S O A : List ℕ) (c : Counts) where
     -- 0: bytes written; the work area is 0, and of the output only its own length is written
     printed : wellFormed text I S O A c ≡ true → wordsNeeded c ≤ length work → length s ≤ length output → PrintEnd work output (printReport (length s)) (cleared work) (s ++ drop (length s) output)
 
+  -- the conditions of these four
+  abbrev pub NoTables : Type 0
+  NoTables = wellFormed text I S O A c ≡ false
+
+  abbrev pub FewWords : List ℕ → Type 0
+  FewWords work = (wellFormed text I S O A c ≡ true) × (length work < wordsNeeded c)
+
+  abbrev pub FewBytes : List ℕ → List ℕ → Type 0
+  FewBytes work output = (wellFormed text I S O A c ≡ true) × (wordsNeeded c ≤ length work) × (length output < length s)
+
+  abbrev pub Enough : List ℕ → List ℕ → Type 0
+  Enough work output = (wellFormed text I S O A c ≡ true) × (wordsNeeded c ≤ length work) × (length s ≤ length output)
+
   -- ---- names
   pub data NameEnd (row : ℕ) : Span → Type 0 where
     -- a counted assignment of well-formed tables: a part of the text, which is '%' and one or more name bytes
