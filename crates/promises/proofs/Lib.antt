@@ -1,5 +1,5 @@
--- What was demanded, over the contracts of the public calls: a statement to each file, in the words of the demand.
--- Calls has the words that they are stated in.
+-- What was demanded, over the contracts of the public calls: a statement to each file, in the words of the demand. These words are in specs/ and in `rules`.
+-- Calls, Lines, Taken and Witnesses lead to the statements.
 pub mod Calls
 pub mod Reports
 -- Demand 1.

@@ -12,11 +12,11 @@ use Rattle.rules.specs.declared.Answer.the-variants as answer
 use Rattle.rules.specs.Syntax.{Item}
 use Rattle.rules.specs.Grammar.{Sentence}
 use Rattle.rules.specs.Answers.{lent, Reads, reportOf, refusalReport}
-use Rattle.rules.specs.Calls.{AsManyRows}
+use Rattle.rules.specs.Calls.{AsManyRows, Call, saidBy}
 use Rattle.promises.specs.Accepts.{Accepts}
 use Rattle.simulation.proofs.Calls.{report-read, report-refused, answered}
 use Rattle.grammar.proofs.Accepts.{one-reading}
-use Rattle.grammar.proofs.Calls.{Answers, call-sentence, sentence-or-seven, calls-answer-sentences}
+use Rattle.grammar.proofs.Calls.{Answers, call-sentence, sentence-or-seven, calls-answer-sentences, read-sentence}
 
 module _ (e : Entry) (text I S O A : List ℕ) {r : Answer} {I′ S′ O′ A′ : List ℕ} (h : Reads e text I S O A r I′ S′ O′ A′) (xs : List Item) where
   -- the same, by an answer and by its report
@@ -58,3 +58,7 @@ module _ (e : Entry) (text I S O A : List ℕ) {r : Answer} {I′ S′ O′ A′
 -- no text stands for two lists of items
 pub one-sentence : (e : Entry) (text : List ℕ) {xs ys : List Item} → Sentence e text xs → Sentence e text ys → xs ≡ ys
 one-sentence e text d c = one-reading e text (d .derives) (c .derives)
+
+-- and each that is accepted stands for one: the items that its tables say
+pub sentence-of : {e : Entry} (c : Call e) → Sentence e (c .text) (saidBy c)
+sentence-of c = read-sentence c
