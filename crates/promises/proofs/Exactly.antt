@@ -94,8 +94,8 @@ module _ (text I S O A : List ℕ) (c : Counts) where
       pub exactly-nine : (reportOf r ≡ refusalReport 9 (wordsNeeded c)) ↔ FewWords text I S O A c w
       exactly-nine = ends-nine (every-print text I S O A c h)
 
-      pub exactly-ten : (reportOf r ≡ refusalReport 10 (length s)) ↔ FewBytes text I S O A c w o
+      pub exactly-ten : (reportOf r ≡ refusalReport 10 (length (printOf text I S O A c))) ↔ FewBytes text I S O A c w o
       exactly-ten = ends-ten (every-print text I S O A c h)
 
-      pub exactly-printed : (reportOf r ≡ printReport (length s)) ↔ Enough text I S O A c w o
+      pub exactly-printed : (reportOf r ≡ printReport (length (printOf text I S O A c))) ↔ Enough text I S O A c w o
       exactly-printed = ends-printed (every-print text I S O A c h)
