@@ -16,12 +16,13 @@ use Rattle.rules.specs.View.{each}
 use Rattle.rules.specs.WellFormed.{counts, consecutive, operandSpans, attributeSpans, statementsOwned, operandsOwned, attributesOwned, kindOk, kindsOk, rowsOwned, itemOk, itemsOk, tablesOk, shortText, wellFormed}
 use Rattle.rules.specs.World.{Tables}
 use Rattle.rules.specs.Answers.{Lent, lent, start, Outcome, accepted, refusal, reading, answerOf, rowsOf, padded, Ends, Reads}
+use Rattle.rules.specs.Calls.{Call}
 use Rattle.reading.proofs.Fitting.{accepted-fits}
 use Rattle.wellformed.proofs.Along.{passes-rows}
 use Rattle.simulation.proofs.Stable.{Later}
 use Rattle.simulation.proofs.Left.{holdingAll, behind}
+use Rattle.simulation.proofs.Calls.{call-reads}
 use Rattle.accepted.proofs.Padding.{and-both, padded-ok}
-use Rattle.simulation.proofs.Calls.{Call}
 use Rattle.accepted.proofs.Whole.{ItemedAll, accepted-short, accepted-itemed}
 
 module _ (e : Entry) (text : List ℕ) (l : Lent) (t : Tables) (h : reading e text l ≡ accepted t) where
@@ -97,4 +98,4 @@ module _ (e : Entry) (text I S O A I′ S′ O′ A′ : List ℕ) (i s o a : �
 
 -- The same, of a call.
 pub call-formed : {e : Entry} (c : Call e) → wellFormed (c .text) (c .I′) (c .S′) (c .O′) (c .A′) (counts (c .items) (c .statements) (c .operands) (c .attributes)) ≡ true
-call-formed {e} c = left-formed e (c .text) (c .I) (c .S) (c .O) (c .A) (c .I′) (c .S′) (c .O′) (c .A′) (c .items) (c .statements) (c .operands) (c .attributes) (c .reads)
+call-formed {e} c = left-formed e (c .text) (c .I) (c .S) (c .O) (c .A) (c .I′) (c .S′) (c .O′) (c .A′) (c .items) (c .statements) (c .operands) (c .attributes) (call-reads c)

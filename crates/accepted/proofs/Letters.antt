@@ -7,9 +7,9 @@ use mathlib.Core.List.{List, [], _∷_}
 use native.Mathlib.Omega.{arith}
 use borrow.Author.Tests.{eq-eqb, le-leb}
 use lib.ListN.{length}
-use Rattle.rules.specs.Bytes.{nameByte, count}
+use Rattle.rules.specs.Bytes.{nameByte, count, bit}
 use Rattle.rules.specs.WellFormed.{isName, isPattern}
-use Rattle.rules.specs.Reading.{bit, allBits}
+use Rattle.rules.specs.Reading.{allBits}
 use Rattle.laws.proofs.Tests.{and-left, and-right}
 use Rattle.bynames.proofs.WellFormed.{IsName, IsPattern}
 use Rattle.bynames.proofs.BackAttributes.{each-count}

@@ -6,11 +6,11 @@ use Prim.Native.Nat.{ℕ, zero, suc, _<_, _^_}
 use lib.Dec.{eqb}
 use lib.ListN.{length, drop}
 use borrow.Author.Tests.{eqb-true}
-use Rattle.rules.specs.Bytes.{bytes, count, same}
+use Rattle.rules.specs.Bytes.{bytes, count, same, bit}
 use Rattle.rules.specs.Tokens as T
 use Rattle.rules.specs.Syntax.{knownBits, powerOfTwo, negative, nonNegative, nonZero, hasExternalUses, signBits, range, demandedBits, harvestedFromUse, Statement}
 use Rattle.rules.specs.Meaning.{All}
-use Rattle.bynames.proofs.WellFormed.{bitByte, AttributeOk, RootAttributeOk}
+use Rattle.bynames.proofs.WellFormed.{AttributeOk, RootAttributeOk}
 use Rattle.bynames.proofs.Reader as R
 use Rattle.bynames.proofs.Reader.{State, P}
 use Rattle.bynames.proofs.AcceptedTokens.{Told, pattern-of, count-each}
@@ -87,8 +87,8 @@ module _ (s : List Statement) where
   demanded-ok w i =
       seq (Gives s (Told T.int)) (Gives s RootAttributeOk) (R.expect T.int w) _ (expect-ok T.int s w i)
       (λ l w₁ g₁.
-      either (Gives s RootAttributeOk) (eqb (count bitByte l) (length l)) _ _ w₁
-      (λ e. closed-ok RootAttributeOk s (demandedBits l) (pattern-of bitByte l (g₁ .1 .some refl) (count-each bitByte l (eqb-true (count bitByte l) (length l) e))) w₁ (g₁ .0))
+      either (Gives s RootAttributeOk) (eqb (count bit l) (length l)) _ _ w₁
+      (λ e. closed-ok RootAttributeOk s (demandedBits l) (pattern-of bit l (g₁ .1 .some refl) (count-each bit l (eqb-true (count bit l) (length l) e))) w₁ (g₁ .0))
       (λ e. tt))
 
   pub root-attribute-ok : (w : State) → In s w → Ok (Gives s RootAttributeOk) (R.rootAttribute w)

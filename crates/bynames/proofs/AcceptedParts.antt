@@ -14,8 +14,9 @@ use Rattle.rules.specs.Tokens as T
 use Rattle.rules.specs.Syntax.{Name, typed, Operand, RightSide, var, block, phi, reservedinst, reservedconst, Statement, flat, ofOperand, ofSide}
 use Rattle.rules.specs.Listing.{has}
 use Rattle.rules.specs.Meaning.{All}
+use Rattle.rules.specs.Grammar.{sideOf}
 use Rattle.laws.proofs.Members.{all-append}
-use Rattle.bynames.proofs.WellFormed.{TypingOk, OperandOk, SideOk, Known, sideOf, isBlock, blockSize, SideFits}
+use Rattle.bynames.proofs.WellFormed.{TypingOk, OperandOk, SideOk, Known, isBlock, blockSize, SideFits}
 use Rattle.bynames.proofs.Tokens.{Next, end, bad, found}
 use Rattle.bynames.proofs.Reader as R
 use Rattle.bynames.proofs.Reader.{State, Res, go, stop, P, bind}

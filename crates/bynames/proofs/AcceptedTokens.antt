@@ -16,8 +16,9 @@ use Rattle.rules.specs.declared.Front.{Front}
 use Rattle.rules.specs.declared.Front.the-variants.{Spelt, Fault}
 use Rattle.rules.specs.Tokens.{ident, valName, knownBits, int, single, intStart, named, pattern, word, start, front}
 use Rattle.rules.specs.Integers.{Read, number, refused, unsigned, below, fits, opposite, minus, integer, positive, typeWidth}
+use Rattle.rules.specs.Meaning.{Each}
 use Rattle.laws.proofs.Same.{by-cond, same-true}
-use Rattle.bynames.proofs.WellFormed.{Each, IsName, IsPattern}
+use Rattle.bynames.proofs.WellFormed.{IsName, IsPattern}
 use Rattle.bynames.proofs.Tokens.{Next, end, bad, found, cut, token}
 
 -- ---- numbers

@@ -9,7 +9,7 @@ use native.Mathlib.Omega.{arith}
 use lib.Dec.{eqb, leb, leb·zero}
 use lib.ListN.{length, getD}
 use borrow.Author.Tests.{leb-true, le-leb, eqb-true, eq-eqb}
-use Rattle.rules.specs.Bytes.{bytes, inside, digit, letter, nameByte, patternByte, far}
+use Rattle.rules.specs.Bytes.{bytes, inside, digit, letter, nameByte, patternByte, far, bit}
 use Rattle.rules.specs.Utf8.{seqLen, checked}
 use Rattle.rules.specs.declared.Checked.the-variants.{WellFormed}
 use Rattle.rules.specs.Integers.{decimal}
@@ -18,9 +18,9 @@ use Rattle.rules.specs.Tokens.{intStart}
 use Rattle.rules.specs.Syntax.{Name, Typing, untyped, typed, Operand, value, constant, RightSide, var, block, phi, reservedinst, reservedconst, instruction, Attribute, knownBits, powerOfTwo, negative, nonNegative, nonZero, hasExternalUses, signBits, range, RootAttribute, demandedBits, harvestedFromUse, Statement, assignment, pc, blockpc, Closing, inferResult, cand, infer, result, Item, onto}
 use Rattle.rules.specs.Listing.{listedBefore, listedBetween}
 use Rattle.rules.specs.Printing.{name, number, feed, typing, operand, further, operands, side, attribute, rootAttribute, attributes, lines, firstClosing, secondClosing, printed, printedAll}
-use Rattle.rules.specs.Meaning.{All}
+use Rattle.rules.specs.Meaning.{All, Each}
 use Rattle.laws.proofs.Tests.{and-left, and-right}
-use Rattle.bynames.proofs.WellFormed.{Each, IsName, IsPattern, bitByte, TypingOk, OperandOk, SideOk, AttributeOk, RootAttributeOk, AssignmentOk, ClosingOk, Wf}
+use Rattle.bynames.proofs.WellFormed.{IsName, IsPattern, TypingOk, OperandOk, SideOk, AttributeOk, RootAttributeOk, AssignmentOk, ClosingOk, Wf}
 use Rattle.bynames.proofs.Tokens.{or-cases}
 use Rattle.bynames.proofs.Decimals.{decimal-printed}
 use Rattle.bynames.proofs.Canon.{canon-wf}
@@ -78,8 +78,7 @@ pattern-low : (b : ℕ) → patternByte b ≡ true → b ≤ 127
 unfolding patternByte
 pattern-low b e = or-cases (eqb b 48) _ e (is-low 48 b (omega arith)) (λ e. or-cases (eqb b 49) (eqb b 120) e (is-low 49 b (omega arith)) (is-low 120 b (omega arith)))
 
-bit-low : (b : ℕ) → bitByte b ≡ true → b ≤ 127
-unfolding bitByte
+bit-low : (b : ℕ) → bit b ≡ true → b ≤ 127
 bit-low b e = or-cases (eqb b 48) (eqb b 49) e (is-low 48 b (omega arith)) (is-low 49 b (omega arith))
 
 start-low : (b : ℕ) → intStart b ≡ true → b ≤ 127
@@ -154,7 +153,7 @@ attribute-keeps (signBits n) o r k = number-keeps n (small 8 n refl o) r k
 attribute-keeps (range a b) o r k = number-keeps a (o .0) (bytes "," ++ number b (bytes ")" ++ r)) (number-keeps b (o .1) (bytes ")" ++ r) k)
 
 root-attribute-keeps : (a : RootAttribute) → RootAttributeOk a → Keeps (rootAttribute a)
-root-attribute-keeps (demandedBits p) o r k = pattern-keeps bitByte bit-low p o r k
+root-attribute-keeps (demandedBits p) o r k = pattern-keeps bit bit-low p o r k
 root-attribute-keeps harvestedFromUse o r k = k
 
 attributes-keep : {A : Type 0} (one : A → List ℕ → List ℕ) (Ok : A → Type 0) → ((a : A) → Ok a → Keeps (one a)) → (l : List A) → All Ok l → Keeps (attributes one l)

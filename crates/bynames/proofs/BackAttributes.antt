@@ -9,13 +9,13 @@ use native.Mathlib.Omega.{arith}
 use lib.Dec.{eqb}
 use lib.ListN.{length}
 use borrow.Author.Tests.{eq-eqb, eqb-true, leb-true}
-use Rattle.rules.specs.Bytes.{bytes, inside, digit, letter, nameByte, patternByte, count, same}
+use Rattle.rules.specs.Bytes.{bytes, inside, digit, letter, nameByte, patternByte, count, same, bit}
 use Rattle.rules.specs.Integers.{decimal}
 use Rattle.rules.specs.Tokens as T
 use Rattle.rules.specs.Syntax.{Attribute, knownBits, powerOfTwo, negative, nonNegative, nonZero, hasExternalUses, signBits, range, RootAttribute, demandedBits, harvestedFromUse, Statement}
 use Rattle.rules.specs.Printing.{number, feed, attribute, rootAttribute, attributes}
-use Rattle.rules.specs.Meaning.{All}
-use Rattle.bynames.proofs.WellFormed.{Each, IsPattern, bitByte, AttributeOk, RootAttributeOk}
+use Rattle.rules.specs.Meaning.{All, Each}
+use Rattle.bynames.proofs.WellFormed.{IsPattern, AttributeOk, RootAttributeOk}
 use Rattle.bynames.proofs.Tokens.{found, token, token-space, or-cases}
 use Rattle.bynames.proofs.Pieces.{IsInt, int-token, pattern-token, comma-token, equals-token, open-token, close-token, bracket-token, isWord, is-word}
 use Rattle.bynames.proofs.Reader as R
@@ -31,19 +31,19 @@ pub each-count : (p : ℕ → Bool) (w : List ℕ) → Each p w → count p w �
 each-count p [] a = refl
 each-count p (b ∷ w) a = rw (a .0) (ap suc (each-count p w (a .1)))
 
-bit-digit : (b : ℕ) → bitByte b ≡ true → digit b ≡ true
-unfolding bitByte digit inside
+bit-digit : (b : ℕ) → bit b ≡ true → digit b ≡ true
+unfolding digit inside
 bit-digit b h = or-cases (eqb b 48) (eqb b 49) h (λ e. rw (eqb-true b 48 e)) (λ e. rw (eqb-true b 49 e))
 
-bits-digits : (w : List ℕ) → Each bitByte w → Each digit w
+bits-digits : (w : List ℕ) → Each bit w → Each digit w
 bits-digits [] a = tt
 bits-digits (b ∷ w) a = (bit-digit b (a .0), bits-digits w (a .1))
 
-bit-starts : (b : ℕ) → bitByte b ≡ true → T.intStart b ≡ true
-unfolding T.intStart bitByte digit inside
+bit-starts : (b : ℕ) → bit b ≡ true → T.intStart b ≡ true
+unfolding T.intStart digit inside
 bit-starts b h = or-cases (eqb b 48) (eqb b 49) h (λ e. rw (eqb-true b 48 e)) (λ e. rw (eqb-true b 49 e))
 
-bits-int : (p : List ℕ) → IsPattern bitByte p → IsInt p
+bits-int : (p : List ℕ) → IsPattern bit p → IsInt p
 bits-int p h = record { first = h .first; rest = h .rest; spelt = h .spelt; starts = bit-starts (h .first) (h .each .0); each = bits-digits (h .rest) (h .each .1) }
 
 -- ---- lists of attributes of one sort
@@ -145,13 +145,13 @@ module _ (t : List Statement) (r : List ℕ) where
   harvested-reads =
       step _ (open-reads (bytes "harvestedFromUse" ++ end)) (step _ (expects t (is-word (bytes "harvestedFromUse") end refl refl)) (closed-reads harvestedFromUse))
 
-  demanded-pattern : (p : List ℕ) → IsPattern bitByte p → R.demandedPattern (at t (p ++ end)) ≡ go (demandedBits p) (at t r)
+  demanded-pattern : (p : List ℕ) → IsPattern bit p → R.demandedPattern (at t (p ++ end)) ≡ go (demandedBits p) (at t r)
   unfolding R.demandedPattern digit inside
   demanded-pattern p h =
       step _ (expects t (int-token p end (bits-int p h) refl))
-      (rw (each-count bitByte p (subst (Each bitByte) (sym (h .spelt)) (h .each)), eq-eqb (length p) (length p) refl) (closed-reads (demandedBits p)))
+      (rw (each-count bit p (subst (Each bit) (sym (h .spelt)) (h .each)), eq-eqb (length p) (length p) refl) (closed-reads (demandedBits p)))
 
-  demanded-reads : (p : List ℕ) → IsPattern bitByte p → R.rootAttribute (at t (bytes " (" ++ rootAttribute (demandedBits p) end)) ≡ go (demandedBits p) (at t r)
+  demanded-reads : (p : List ℕ) → IsPattern bit p → R.rootAttribute (at t (bytes " (" ++ rootAttribute (demandedBits p) end)) ≡ go (demandedBits p) (at t r)
   unfolding R.rootAttribute isWord letter nameByte digit inside same
   demanded-reads p h =
       step _ (open-reads (bytes "demandedBits=" ++ (p ++ end)))

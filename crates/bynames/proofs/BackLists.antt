@@ -73,23 +73,27 @@ lines-begin (assignment a ∷ l) t p w r b = record { shut = line-shut a (lines 
 lines-begin (pc x y ∷ l) t p w r b = absurd (p .0)
 lines-begin (blockpc n k x y ∷ l) t p w r b = absurd (p .0)
 
-module _ (e : Entry) (x : Item) (d : Readable e x) where
-  printed-reads : (r : List ℕ) → Shut r → itemOf e (at [] (printed x r)) ≡ go (canon x) (at (scope (canon x)) r)
+module _ (x : Item) (w : WfItem x) where
+  pub printed-reads : (e : Entry) → Of e (x .closing) → (r : List ℕ) → Shut r → itemOf e (at [] (printed x r)) ≡ go (canon x) (at (scope (canon x)) r)
   unfolding printed
-  printed-reads r b = item-reads e (listedBefore x) (listedBetween x) (x .closing) (d .of) (halves x (x .closing) refl) (laid-canon x (d .wf)) r b
+  printed-reads e of r b = item-reads e (listedBefore x) (listedBetween x) (x .closing) of (halves x (x .closing) refl) (laid-canon x w) r b
 
   printed-begins : (r : List ℕ) → Begins (printed x r)
   unfolding printed
   printed-begins r =
       let z : List ℕ = lines (listedBetween x) (secondClosing (x .closing) r) in
-      lines-begin (listedBefore x) [] (plain-before x (d .wf)) (wf-below (listedBetween x) (onto (listedBefore x) []) (canon-wf x (d .wf) .wf)) (firstClosing (x .closing) z)
+      lines-begin (listedBefore x) [] (plain-before x w) (wf-below (listedBetween x) (onto (listedBefore x) []) (canon-wf x w .wf)) (firstClosing (x .closing) z)
       (record { shut = closes-shut (firstClosing (x .closing) z) (first-closes (x .closing) z); some = refl })
 
--- ---- lists
-pub printed-shut : (e : Entry) (xs : List Item) → All (Readable e) xs → Shut (printedAll xs)
+-- ---- lists, of whatever kinds
+pub printed-shut : (xs : List Item) → All WfItem xs → Shut (printedAll xs)
 unfolding token
-printed-shut e [] v = record { tok = record { kind = 0; letters = [] }; sees = λ t. refl; colon = refl; paren = refl }
-printed-shut e (x ∷ xs) v = printed-begins e x (v .0) (printedAll xs) .shut
+printed-shut [] v = record { tok = record { kind = 0; letters = [] }; sees = λ t. refl; colon = refl; paren = refl }
+printed-shut (x ∷ xs) v = printed-begins x (v .0) (printedAll xs) .shut
+
+pub readable-wf : (e : Entry) (xs : List Item) → All (Readable e) xs → All WfItem xs
+readable-wf e [] v = tt
+readable-wf e (x ∷ xs) v = (v .0 .wf, readable-wf e xs (v .1))
 
 abbrev pub canons : List Item → List Item
 canons [] = []
@@ -101,9 +105,9 @@ list-reads e [] v zero h t = absurd (let z : ⊥ = omega arith in z)
 list-reads e (x ∷ xs) v zero h t = absurd (let z : ⊥ = omega arith in z)
 list-reads e [] v (suc g) h t = (at t [], refl)
 list-reads e (x ∷ xs) v (suc g) h t =
-    let b : Begins (printed x (printedAll xs)) = printed-begins e x (v .0) (printedAll xs) in
+    let b : Begins (printed x (printedAll xs)) = printed-begins x (v .0 .wf) (printedAll xs) in
     let q : (w : State) × (R.list e g (at (scope (canon x)) (printedAll xs)) ≡ go (canons xs) w) = list-reads e xs (v .1) g (omega arith) (scope (canon x)) in
-    (q .0, step _ (b .shut .sees t) (rw (b .some) (step _ (printed-reads e x (v .0) (printedAll xs) (printed-shut e xs (v .1))) (step _ (q .1) refl))))
+    (q .0, step _ (b .shut .sees t) (rw (b .some) (step _ (printed-reads x (v .0 .wf) e (v .0 .of) (printedAll xs) (printed-shut xs (readable-wf e xs (v .1)))) (step _ (q .1) refl))))
 
 -- ---- a print has a byte for each item
 root-long : (l : List RootAttribute) (r : List ℕ) → length l + length r ≤ length (attributes rootAttribute l r)

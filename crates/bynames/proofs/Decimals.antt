@@ -12,11 +12,11 @@ use borrow.Author.Tests.{lt-ltb, le-leb, lt-leb, ne-eqb, ltb-true, leb-true, leb
 use Rattle.rules.specs.Bytes.{byte, inside, digit, letter, nameByte}
 use Rattle.rules.specs.Integers.{number, behind, unsigned, fits, opposite, integer, typeWidth, spell, digits, decimal}
 use Rattle.rules.specs.Tokens.{intStart}
+use Rattle.rules.specs.Meaning.{Each}
 use Rattle.laws.proofs.Same.{by-cond}
 use Rattle.laws.proofs.Tests.{and-left}
 use Rattle.laws.proofs.Opposite.{opposite-is, left}
 use Rattle.laws.proofs.Members.{all-append}
-use Rattle.bynames.proofs.WellFormed.{Each}
 use Rattle.bynames.proofs.Pieces.{IsInt}
 
 is-digit : (d : ℕ) → d < 10 → digit (48 + d) ≡ true

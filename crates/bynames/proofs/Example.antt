@@ -15,7 +15,6 @@ use Rattle.rules.specs.Instructions as N
 use Rattle.rules.specs.Syntax.{untyped, typed, value, constant, var, instruction, assignment, pc, cand, Item}
 use Rattle.rules.specs.Listing.{listedBefore, listedBetween}
 use Rattle.rules.specs.Printing.{printed, printedAll}
-use Rattle.bynames.proofs.WellFormed.{bitByte}
 use Rattle.bynames.proofs.Tokens.{token}
 use Rattle.bynames.proofs.Reader as R
 use Rattle.bynames.proofs.Reader.{Entry, replacements, leftHandSides, rightHandSides, Answer, accepted, refusal, reading}
@@ -79,5 +78,5 @@ hold [] = true
 hold (s ∷ l) = Bool·beq (taken (reading (s .entry) (s .text))) (s .taken) && hold l
 
 settled-hold : hold settled ≡ true
-unfolding same B.inside B.digit B.letter B.nameByte B.patternByte B.lineByte U.seqLen U.codePoint S.white S.spaceLen S.commentLen S.skipLen T.single T.intStart T.pattern T.word T.start I.integer I.typeWidth N.instructionOf N.arityOf bitByte token R.expect R.keyword R.int R.field R.typing R.operand R.further R.operands R.attributeOf R.attribute R.rootAttribute R.attributes R.rightSide R.assigned R.condition R.statements R.inferred R.candidate R.pair R.replacement R.leftHandSide R.rightHandSide R.list reading
+unfolding same B.inside B.digit B.letter B.nameByte B.patternByte B.lineByte U.seqLen U.codePoint S.white S.spaceLen S.commentLen S.skipLen T.single T.intStart T.pattern T.word T.start I.integer I.typeWidth N.instructionOf N.arityOf token R.expect R.keyword R.int R.field R.typing R.operand R.further R.operands R.attributeOf R.attribute R.rootAttribute R.attributes R.rightSide R.assigned R.condition R.statements R.inferred R.candidate R.pair R.replacement R.leftHandSide R.rightHandSide R.list reading
 settled-hold = refl

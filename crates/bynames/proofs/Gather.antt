@@ -8,9 +8,10 @@ use lib.ListN.{length}
 use Rattle.rules.specs.Syntax.{Name, RightSide, var, block, phi, reservedinst, reservedconst, instruction, Statement, assignment, pc, blockpc, flat, onto, ofSide, refers}
 use Rattle.rules.specs.Meaning.{Mem}
 use Rattle.rules.specs.Listing.{assigns, has, among, unfolded, firsts}
+use Rattle.rules.specs.Grammar.{sideIn, sideOf}
 use Rattle.laws.proofs.Same.{by-cond, same-refl}
 use Rattle.bynames.proofs.Members.{Within}
-use Rattle.bynames.proofs.WellFormed.{Known, sideIn, sideOf, isBlock, blockSize, SideFits, BlockFits, Fits, Wf}
+use Rattle.bynames.proofs.WellFormed.{Known, isBlock, blockSize, SideFits, BlockFits, Fits, Wf}
 use Rattle.bynames.proofs.Names.{Assigned, has-member, member-has, has-older, among-has, assigned-once}
 
 -- a scope with one more, unless it is among them; with those of a list, one after another

@@ -37,4 +37,5 @@ pub mod Fuel
 -- The promises.
 pub mod Canonical
 pub mod Listed
+pub mod Costs
 pub mod ReadingBack

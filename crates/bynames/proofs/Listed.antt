@@ -8,6 +8,7 @@ use Prim.Native.Nat.{ℕ}
 use Rattle.rules.specs.Syntax.{Name, Assignment, Statement, assignment, pc, blockpc, Item, onto, scope, refers, firstRoots, secondRoots, roots}
 use Rattle.rules.specs.Meaning.{Mem, Reachable, All}
 use Rattle.rules.specs.Listing.{assigns, has, listedBefore, listedBetween}
+use Rattle.rules.specs.Order.{Assigns, InOrder}
 use Rattle.laws.proofs.Same.{not-both, same-true, same-refl}
 use Rattle.laws.proofs.Members.{all-at, mem-left, mem-right, mem-split}
 use Rattle.bynames.proofs.Members.{mem-onto, mem-below, onto-mem}
@@ -18,15 +19,6 @@ use Rattle.bynames.proofs.Reader.{Entry, reading, accepted}
 use Rattle.bynames.proofs.BackLines.{Plain, wf-below}
 use Rattle.bynames.proofs.BackLists.{Readable, plain-before, plain-between}
 use Rattle.bynames.proofs.AcceptedItems.{accepted-readable}
-
--- one of a list of statements assigns a name
-abbrev pub Assigns : Name → List Statement → Type 0
-Assigns n l = (a : Assignment) × Mem (assignment a) l × (a .name ≡ n)
-
--- statements behind others: none is one of those before it, and each name that it refers to is assigned by one before it
-abbrev pub InOrder : List Statement → List Statement → Type 0
-InOrder t [] = Unit {0}
-InOrder t (s ∷ l) = (Mem s t → ⊥) × ((m : Name) → Mem m (refers s) → Assigns m t) × InOrder (s ∷ t) l
 
 -- the lines of a print, without the closing lines
 abbrev pub listed : Item → List Statement

@@ -5,13 +5,14 @@ use mathlib.Core.List.{List, [], _∷_}
 use Prim.Native.Nat.{ℕ, zero, suc}
 use lib.Dec.{eqb, ltb}
 use lib.ListN.{length}
-use Rattle.rules.specs.Bytes.{bytes, count, same}
+use Rattle.rules.specs.Bytes.{bytes, count, same, bit}
 use Rattle.rules.specs.Integers.{Read, number, refused, fits, integer, typeWidth}
 use Rattle.rules.specs.Instructions.{instructionOf, arityOf}
 use Rattle.rules.specs.Tokens as T
 use Rattle.rules.specs.Syntax.{Name, Statement}
 use Rattle.rules.specs.Listing.{has}
-use Rattle.bynames.proofs.WellFormed.{bitByte, sideOf, isBlock, blockSize}
+use Rattle.rules.specs.Grammar.{sideOf}
+use Rattle.bynames.proofs.WellFormed.{isBlock, blockSize}
 use Rattle.bynames.proofs.Reader as R
 use Rattle.bynames.proofs.Reader.{Res, go, stop, P, fuelOf, Entry, replacements, leftHandSides, rightHandSides, itemOf}
 use Rattle.bynames.proofs.AcceptedParts.{Ok}
@@ -127,7 +128,7 @@ attribute-takes =
 
 demanded-keeps : Keeps R.demandedPattern
 unfolding R.demandedPattern
-demanded-keeps = keeps-then (expect-keeps T.int) (λ l. keeps-if (eqb (count bitByte l) (length l)) (closed-keeps _) refuse-keeps)
+demanded-keeps = keeps-then (expect-keeps T.int) (λ l. keeps-if (eqb (count bit l) (length l)) (closed-keeps _) refuse-keeps)
 
 pub root-attribute-takes : Takes R.rootAttribute
 unfolding R.rootAttribute

@@ -11,7 +11,8 @@ use Rattle.rules.specs.Integers.{Read, number, refused, fits, integer}
 use Rattle.rules.specs.Tokens as T
 use Rattle.rules.specs.Syntax.{Name, Statement}
 use Rattle.rules.specs.Listing.{has}
-use Rattle.bynames.proofs.WellFormed.{sideOf, isBlock, blockSize}
+use Rattle.rules.specs.Grammar.{sideOf}
+use Rattle.bynames.proofs.WellFormed.{isBlock, blockSize}
 use Rattle.bynames.proofs.Tokens.{Next, end, bad, found, token}
 
 pub record State : Type 0 where

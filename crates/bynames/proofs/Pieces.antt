@@ -15,8 +15,9 @@ use Rattle.rules.specs.Bytes.{bytes, inside, digit, letter, nameByte, patternBy
 use Rattle.rules.specs.Space.{white}
 use Rattle.rules.specs.Tokens.{ident, valName, knownBits, int, comma, colon, equals, openParen, closeParen, openBracket, single, intStart, pattern, word, start}
 use Rattle.rules.specs.Instructions.{Instruction, instructions, instructionName}
+use Rattle.rules.specs.Meaning.{Each}
 use Rattle.laws.proofs.Tests.{and-left, and-right}
-use Rattle.bynames.proofs.WellFormed.{Each, IsName, IsPattern}
+use Rattle.bynames.proofs.WellFormed.{IsName, IsPattern}
 use Rattle.bynames.proofs.Tokens.{found, token, solid, plain, token-first, token-plain, letter-is-plain, int-is-plain, Stops, run, cut-seam}
 
 -- '%' and name bytes

@@ -5,12 +5,11 @@ use mathlib.Core.List.{List, [], _∷_}
 use Prim.Native.Nat.{ℕ, zero, suc}
 use lib.ListN.{length, drop}
 use lib.Dec.{eqb, ltb}
-use Rattle.rules.specs.Bytes.{bytes, count, same}
+use Rattle.rules.specs.Bytes.{bytes, count, same, bit}
 use Rattle.rules.specs.Integers.{Read, number, refused, typeWidth}
 use Rattle.rules.specs.Instructions.{instructionOf, arityOf}
 use Rattle.rules.specs.Tokens as T
 use Rattle.rules.specs.Syntax.{Name, Typing, untyped, typed, Operand, value, constant, RightSide, var, block, phi, reservedinst, reservedconst, instruction, Attribute, knownBits, powerOfTwo, negative, nonNegative, nonZero, hasExternalUses, signBits, range, RootAttribute, demandedBits, harvestedFromUse, Statement, assignment, pc, blockpc, Closing, inferResult, cand, infer, result, Item}
-use Rattle.bynames.proofs.WellFormed.{bitByte}
 pub use Rattle.bynames.proofs.Parser.{State, Token, Res, go, stop, P, bind, _>>=_, _>>_, refuse, give, at, seen, look, demanded, demand, read, fresh, known, blocked, enter, ahead, fuelOf}
 unfoldable pub use Rattle.bynames.proofs.Parser.{expect, keyword, int, field}
 
@@ -100,7 +99,7 @@ attribute = do
 unfoldable pub demandedPattern : P RootAttribute
 demandedPattern = do
   w ← expect T.int
-  cond (eqb (count bitByte w) (length w)) (closed (demandedBits w)) refuse
+  cond (eqb (count bit w) (length w)) (closed (demandedBits w)) refuse
 
 unfoldable pub rootAttribute : P RootAttribute
 rootAttribute = do

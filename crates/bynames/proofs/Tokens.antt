@@ -15,8 +15,8 @@ use Rattle.rules.specs.Space.{white, spaceLen, commentLen, skipLen, gap}
 use Rattle.rules.specs.declared.Front.{Front}
 use Rattle.rules.specs.declared.Front.the-variants.{Spelt, Fault, Nothing}
 use Rattle.rules.specs.Tokens.{int, single, intStart, word, start, front}
+use Rattle.rules.specs.Meaning.{Each}
 use Rattle.laws.proofs.Tests.{and-left, and-right}
-use Rattle.bynames.proofs.WellFormed.{Each}
 
 -- nothing, no token, or a token's kind and bytes and the text behind it
 pub data Next : Type 0 where

@@ -1,21 +1,18 @@
 -- What items of an accepted text are like. A scope is statements, the newest first.
 -- Assumes nothing.
 use mathlib.Core.Path.{_≡_}
-use mathlib.Core.Bool.{Bool, true, false, cond, _||_}
+use mathlib.Core.Bool.{Bool, true, false}
 use mathlib.Core.List.{List, [], _∷_}
 use Prim.Native.Nat.{ℕ, _≤_, _<_, _^_}
-use lib.Dec.{eqb}
 use lib.ListN.{length}
-use Rattle.rules.specs.Bytes.{byte, nameByte, patternByte}
+use Rattle.rules.specs.Bytes.{byte, nameByte, patternByte, bit}
 use Rattle.rules.specs.Instructions.{arityOf}
 use Rattle.rules.specs.Syntax.{Name, Typing, untyped, typed, Operand, value, constant, RightSide, var, block, phi, reservedinst, reservedconst, instruction, Attribute, knownBits, powerOfTwo, negative, nonNegative, nonZero, hasExternalUses, signBits, range, RootAttribute, demandedBits, harvestedFromUse, Assignment, Statement, assignment, pc, blockpc, Closing, inferResult, cand, infer, result, Item, scope, refers, roots}
-use Rattle.rules.specs.Listing.{assigns, has, among}
-use Rattle.rules.specs.Meaning.{All}
+use Rattle.rules.specs.Listing.{has, among}
+use Rattle.rules.specs.Grammar.{sideOf}
+use Rattle.rules.specs.Meaning.{All, Each}
 
 -- ---- what each part is by itself
-abbrev pub Each : (ℕ → Bool) → List ℕ → Type 0
-Each p = All (λ b. p b ≡ true)
-
 -- '%' and one or more name bytes
 pub record IsName (n : Name) : Type 0 where
   pub first : ℕ
@@ -29,10 +26,6 @@ pub record IsPattern (p : ℕ → Bool) (l : List ℕ) : Type 0 where
   pub rest : List ℕ
   pub spelt : l ≡ first ∷ rest
   pub each : Each p (first ∷ rest)
-
--- the letters of a demandedBits pattern
-unfoldable pub bitByte : ℕ → Bool
-bitByte b = eqb b (byte "0") || eqb b (byte "1")
 
 abbrev pub TypingOk : Typing → Type 0
 TypingOk untyped = Unit {0}
@@ -61,7 +54,7 @@ AttributeOk (signBits n) = n < 2 ^ 8
 AttributeOk (range a b) = (a < 2 ^ 128) × (b < 2 ^ 128)
 
 abbrev pub RootAttributeOk : RootAttribute → Type 0
-RootAttributeOk (demandedBits l) = IsPattern bitByte l
+RootAttributeOk (demandedBits l) = IsPattern bit l
 RootAttributeOk harvestedFromUse = Unit {0}
 
 pub record AssignmentOk (a : Assignment) : Type 0 where
@@ -84,16 +77,6 @@ ClosingOk (result o) = OperandOk o
 -- ---- what each part is in its scope
 abbrev pub Known : List Statement → List Name → Type 0
 Known t = All (λ m. has m t ≡ true)
-
--- the right side of a statement; of the newest statement that assigns a name
-abbrev pub sideIn : Statement → RightSide
-sideIn (assignment a) = a .side
-sideIn (pc x y) = var
-sideIn (blockpc b k x y) = var
-
-abbrev pub sideOf : Name → List Statement → RightSide
-sideOf n [] = var
-sideOf n (s ∷ t) = cond (assigns n s) (sideIn s) (sideOf n t)
 
 abbrev pub isBlock : RightSide → Bool
 isBlock var = false

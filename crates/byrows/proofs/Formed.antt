@@ -109,6 +109,12 @@ module _ (text I S O A : List ℕ) (c : Counts) (ok : wellFormed text I S O A c 
       and-left (operandsOwned I S (c .items) o) (formed.attributesOwned I S (c .items) (c .attributes))
       (and-right (kindsOk I (c .items)) owned₃ (and-right (statementsOwned I (c .items) s) owned₂ rows-owned))
 
+  pub attributes-owned : consecutive 0 (c .attributes) (flat (formed.attributeSpans S) (each (itemAt I) 0 (c .items))) ≡ true
+  unfolding rowsOwned formed.attributesOwned
+  attributes-owned =
+      and-right (operandsOwned I S (c .items) o) (formed.attributesOwned I S (c .items) (c .attributes))
+      (and-right (kindsOk I (c .items)) owned₃ (and-right (statementsOwned I (c .items) s) owned₂ rows-owned))
+
   -- ---- an item of theirs
   module _ (k : ℕ) (counted : k < c .items) where
     abbrev item : Item
@@ -117,15 +123,17 @@ module _ (text I S O A : List ℕ) (c : Counts) (ok : wellFormed text I S O A c 
     pub item-inside : Inside 0 s (item .statements)
     item-inside = consecutive-inside (each (λ i. itemAt I i .statements) 0 (c .items)) 0 s statements-owned (item .statements) (mem-each (λ i. itemAt I i .statements) (c .items) 0 k (omega arith) (omega arith))
 
-    item-known : itemOk text S O A item ≡ true
+    pub item-known : itemOk text S O A item ≡ true
     unfolding itemsOk
     item-known = every-each (λ i. itemOk text S O A (itemAt I i)) (c .items) 0 items-known k (omega arith) (omega arith)
 
-    middle-known : middleOk item ≡ true
-    unfolding kindsOk kindOk
-    middle-known =
-        and-right (inside inferResult rightHandSide (item .kind)) (middleOk item)
-        (every-each (λ i. kindOk (itemAt I i)) (c .items) 0 kinds-known k (omega arith) (omega arith))
+    pub kind-known : kindOk item ≡ true
+    unfolding kindsOk
+    kind-known = every-each (λ i. kindOk (itemAt I i)) (c .items) 0 kinds-known k (omega arith) (omega arith)
+
+    pub middle-known : middleOk item ≡ true
+    unfolding kindOk
+    middle-known = and-right (inside inferResult rightHandSide (item .kind)) (middleOk item) kind-known
 
     pub item-whole : Whole text S O s item
     item-whole = whole text S O A s item (item-inside .high) (item-inside .up) middle-known item-known

@@ -35,22 +35,27 @@ module _ (text S O A : List ℕ) (s : ℕ) (x : Item) (counted : x .statements .
   abbrev is : ℕ → Bool
   is k = eqb (x .kind) k
 
-  infer-known : inferOk S x ≡ true
+  pub infer-known : inferOk S x ≡ true
   unfolding itemOk
   infer-known = and-left (inferOk S x) (closingOk S O x && (formed.rootsOk text A x && statementsOk text S O A (x .statements))) ok
 
-  closing-known : closingOk S O x ≡ true
+  pub closing-known : closingOk S O x ≡ true
   unfolding itemOk
   closing-known =
       and-left (closingOk S O x) (formed.rootsOk text A x && statementsOk text S O A (x .statements))
       (and-right (inferOk S x) (closingOk S O x && (formed.rootsOk text A x && statementsOk text S O A (x .statements))) ok)
 
-  rows-known : statementsOk text S O A (x .statements) ≡ true
+  behind-closing : (formed.rootsOk text A x && statementsOk text S O A (x .statements)) ≡ true
   unfolding itemOk
-  rows-known =
-      and-right (formed.rootsOk text A x) (statementsOk text S O A (x .statements))
-      (and-right (closingOk S O x) (formed.rootsOk text A x && statementsOk text S O A (x .statements))
-      (and-right (inferOk S x) (closingOk S O x && (formed.rootsOk text A x && statementsOk text S O A (x .statements))) ok))
+  behind-closing =
+      and-right (closingOk S O x) (formed.rootsOk text A x && statementsOk text S O A (x .statements))
+      (and-right (inferOk S x) (closingOk S O x && (formed.rootsOk text A x && statementsOk text S O A (x .statements))) ok)
+
+  pub roots-known : formed.rootsOk text A x ≡ true
+  roots-known = and-left (formed.rootsOk text A x) (statementsOk text S O A (x .statements)) behind-closing
+
+  rows-known : statementsOk text S O A (x .statements) ≡ true
+  rows-known = and-right (formed.rootsOk text A x) (statementsOk text S O A (x .statements)) behind-closing
 
   pub row-known : (i : ℕ) → lo ≤ i → i < hi → statementOk text S O A lo i (statementAt S i) ≡ true
   unfolding statementsOk

@@ -30,7 +30,7 @@ use Rattle.byrows.proofs.Spans.{every-along}
 pub picked : (t x y : Bool) → t ≡ true → cond t x y ≡ true → x ≡ true
 picked t x y e h = sym (cond-true t x y e) ∙ h
 
-between : (lo hi c : ℕ) → inside lo hi c ≡ true → (lo ≤ c) × (c ≤ hi)
+pub between : (lo hi c : ℕ) → inside lo hi c ≡ true → (lo ≤ c) × (c ≤ hi)
 unfolding inside
 between lo hi c e = (leb-true lo c (and-left (leb lo c) (leb c hi) e), leb-true c hi (and-right (leb lo c) (leb c hi) e))
 
@@ -41,7 +41,7 @@ assigning-code c e =
     let b = between 1 64 c e in
     ap not (ap (λ (x : Bool). x || eqb c 66) (ne-eqb c 65 (λ q. omega (arith, b .1))) ∙ ne-eqb c 66 (λ q. omega (arith, b .1)))
 
-assignment-code : (c : ℕ) → inside (instructionCode 0) (keywordCode keyword.blockpc) c ≡ true → not (isCondition c) ≡ true → isAssignment c ≡ true
+pub assignment-code : (c : ℕ) → inside (instructionCode 0) (keywordCode keyword.blockpc) c ≡ true → not (isCondition c) ≡ true → isAssignment c ≡ true
 unfolding isAssignment inside
 assignment-code c e n =
     let b = between 1 66 c e in
@@ -76,7 +76,7 @@ refers-to S lo hi j e =
       so = assigning-code (statementAt S j .code) (and-right (a && b) c e);
     }
 
-refers-block : (S : List ℕ) (lo hi j : ℕ) → refersToBlock S lo hi j ≡ true → Refers S lo hi j
+pub refers-block : (S : List ℕ) (lo hi j : ℕ) → refersToBlock S lo hi j ≡ true → Refers S lo hi j
 unfolding refersToBlock among
 refers-block S lo hi j e =
     let a : Bool = leb lo j in
@@ -109,7 +109,7 @@ or-split true b e = inl refl
 or-split false b e = inr e
 
 -- how many operands a code has, where n is its block's number
-abbrev arityWith : ℕ → ℕ → ℕ
+abbrev pub arityWith : ℕ → ℕ → ℕ
 arityWith n c = cond (isInstruction c) (arityOf (c - 1)) (cond (eqb c (keywordCode keyword.phi)) n (cond (formed.isCondition c) 2 0))
 
 condition-arity : (n c : ℕ) → isCondition c ≡ true → arityWith n c ≡ 2
@@ -147,7 +147,7 @@ module _ (text S O A : List ℕ) (lo i : ℕ) (ok : statementOk text S O A lo i 
   abbrev from₂ : Bool
   from₂ = nameOk text S lo i row && from₃
 
-  code-known : inside (instructionCode 0) (keywordCode keyword.blockpc) (row .code) ≡ true
+  pub code-known : inside (instructionCode 0) (keywordCode keyword.blockpc) (row .code) ≡ true
   unfolding statementOk
   code-known = and-left (inside 1 66 (row .code)) from₂ ok
 
@@ -155,19 +155,28 @@ module _ (text S O A : List ℕ) (lo i : ℕ) (ok : statementOk text S O A lo i 
   unfolding statementOk
   rest₂ = and-right (inside 1 66 (row .code)) from₂ ok
 
-  name-known : nameOk text S lo i row ≡ true
+  pub name-known : nameOk text S lo i row ≡ true
   name-known = and-left (nameOk text S lo i row) from₃ rest₂
 
-  rest₅ : from₅ ≡ true
-  rest₅ = and-right (formed.numberOk row) from₅ (and-right (formed.widthOk row) from₄ (and-right (nameOk text S lo i row) from₃ rest₂))
+  rest₃ : from₃ ≡ true
+  rest₃ = and-right (nameOk text S lo i row) from₃ rest₂
 
-  block-known : blockOk S lo i row ≡ true
+  pub width-known : formed.widthOk row ≡ true
+  width-known = and-left (formed.widthOk row) from₄ rest₃
+
+  rest₅ : from₅ ≡ true
+  rest₅ = and-right (formed.numberOk row) from₅ (and-right (formed.widthOk row) from₄ rest₃)
+
+  pub block-known : blockOk S lo i row ≡ true
   block-known = and-left (blockOk S lo i row) from₆ rest₅
 
-  operands-known : operandsFit S O lo i row ≡ true
+  pub operands-known : operandsFit S O lo i row ≡ true
   operands-known = and-left (operandsFit S O lo i row) (formed.attributesFit text A row) (and-right (blockOk S lo i row) from₆ rest₅)
 
-  size-known : size S i ≡ arityWith (statementAt S (row .block) .number) (row .code)
+  pub attributes-known : formed.attributesFit text A row ≡ true
+  attributes-known = and-right (operandsFit S O lo i row) (formed.attributesFit text A row) (and-right (blockOk S lo i row) from₆ rest₅)
+
+  pub size-known : size S i ≡ arityWith (statementAt S (row .block) .number) (row .code)
   unfolding operandsFit size arity
   size-known = eqb-true (long (row .operands)) (arity S row) (and-left (eqb (long (row .operands)) (arity S row)) (operandsOk S O lo i (row .operands)) operands-known)
 

@@ -73,7 +73,7 @@ module _ (text S O A : List ℕ) (x : Item) where
   abbrev afterBoth : syntax.Closing
   afterBoth = cond (is candidate) byCand afterCand
 
-  first-names : syntax.firstRoots (asClosing text S O A x) ≡ map name (firstRoots O x)
+  pub first-names : syntax.firstRoots (asClosing text S O A x) ≡ map name (firstRoots O x)
   unfolding asClosing firstRoots
   first-names =
       by-cases (is inferResult)
@@ -92,7 +92,7 @@ module _ (text S O A : List ℕ) (x : Item) where
       rows₁ : List ℕ
       rows₁ = cond (is candidate) (named O at 2) rows₂
 
-  second-names : syntax.secondRoots (asClosing text S O A x) ≡ map name (secondRoots O x)
+  pub second-names : syntax.secondRoots (asClosing text S O A x) ≡ map name (secondRoots O x)
   unfolding asClosing secondRoots
   second-names =
       by-cases (is inferResult)
@@ -127,7 +127,7 @@ module _ (text S O A : List ℕ) (s : ℕ) (so : Sound S O s) (x : Item) (h : Wh
   abbrev r : ℕ → List ℕ
   r = refers S O s
 
-  scope-rows : scope (asItem text S O A x) ≡ scopeOf say lo (hi - lo)
+  pub scope-rows : scope (asItem text S O A x) ≡ scopeOf say lo (hi - lo)
   unfolding asItem
   scope-rows =
       ap (onto (along say (x .middle upTo hi))) (onto-each say lo (x .middle - lo) 0 lo (sym (add-zero lo)))

@@ -75,15 +75,15 @@ owner g (suc n) a at past e i l h =
         record { k = o .k; from = omega (arith, o .from); to = omega (arith, o .to); low = o .low; high = o .high }
 
 -- ---- how many rows spans have in all
-abbrev total : List Span → ℕ
+abbrev pub total : List Span → ℕ
 total [] = 0
 total (s ∷ l) = long s + total l
 
-total-append : (xs ys : List Span) → total (xs ++ ys) ≡ total xs + total ys
+pub total-append : (xs ys : List Span) → total (xs ++ ys) ≡ total xs + total ys
 total-append [] ys = omega arith
 total-append (s ∷ xs) ys = omega (arith, total-append xs ys)
 
-consecutive-total : (l : List Span) (at past : ℕ) → consecutive at past l ≡ true → at + total l ≡ past
+pub consecutive-total : (l : List Span) (at past : ℕ) → consecutive at past l ≡ true → at + total l ≡ past
 consecutive-total [] at past e = let q : at ≡ past = eqb-true at past e in omega arith
 consecutive-total (s ∷ l) at past e =
     omega (arith, first-at at past s l e, past-after at past s l e, consecutive-total l (s .past) past (then at past s l e))

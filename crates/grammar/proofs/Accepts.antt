@@ -23,11 +23,12 @@ use Rattle.rules.specs.World.{Tables}
 use Rattle.rules.specs.Answers.{Lent, Outcome, accepted, refusal, answerOf, readChecked, reading}
 use Rattle.laws.proofs.Cases.{by-cases}
 use Rattle.bynames.proofs.Reader as names
-use Rattle.simulation.proofs.Said.{itemsIn, AsManyRows}
+use Rattle.simulation.proofs.Said.{itemsIn}
 use Rattle.simulation.proofs.Items.{entryOf}
 use Rattle.simulation.proofs.Whole.{accepted-by-names, accepted-by-rows}
 use Rattle.simulation.proofs.AsManyRows.{same-answer}
-use Rattle.grammar.proofs.Grammar.{Derives, Sentence}
+use Rattle.rules.specs.Grammar.{Derives, Sentence}
+use Rattle.rules.specs.Calls.{AsManyRows}
 use Rattle.grammar.proofs.Leads.{lexes-lead, lead-lexes}
 use Rattle.grammar.proofs.SoundItems.{accepted-sound}
 use Rattle.grammar.proofs.CompleteItems.{complete}

@@ -3,7 +3,7 @@
 -- where it is lent as many rows of each table as the text has bytes.
 -- Assumes nothing.
 use Prim.Native.Nat.{ℕ}
-use mathlib.Core.Path.{_≡_, sym, ap, _∙_, subst}
+use mathlib.Core.Path.{_≡_, refl, sym, ap, _∙_, subst}
 use mathlib.Core.Logic.{_↔_, _⊎_, inl, inr, ⊎-elim}
 use mathlib.Core.List.{List}
 use Rattle.rules.specs.declared.Entry.{Entry}
@@ -13,11 +13,12 @@ use Rattle.rules.specs.Syntax.{Item}
 use Rattle.rules.specs.View.{itemsOf}
 use Rattle.rules.specs.World.{Tables}
 use Rattle.rules.specs.Answers.{lent, refusal, answerOf, Reads, reading}
-use Rattle.simulation.proofs.Said.{itemsIn, AsManyRows}
+use Rattle.simulation.proofs.Said.{itemsIn}
 use Rattle.simulation.proofs.Left.{left-say}
-use Rattle.simulation.proofs.Calls.{same-tables}
-use Rattle.grammar.proofs.Grammar.{Sentence}
-use Rattle.grammar.proofs.Accepts.{accepted-sentence, Accepts, sentence-accepted, accepted-or-seven}
+use Rattle.simulation.proofs.Calls.{same-tables, call-reads}
+use Rattle.rules.specs.Grammar.{Sentence}
+use Rattle.rules.specs.Calls.{AsManyRows, Call, saidBy}
+use Rattle.grammar.proofs.Accepts.{one-reading, accepted-sentence, Accepts, sentence-accepted, accepted-or-seven}
 
 -- an answer of 0, and tables that say some items
 pub record Answers (text : List ℕ) (r : Answer) (I′ S′ O′ A′ : List ℕ) (xs : List Item) : Type 0 where
@@ -59,3 +60,12 @@ module _ (e : Entry) (text I S O A : List ℕ) (r : Answer) (I′ S′ O′ A′
   -- with as many rows as the text has bytes: the theorem
   pub calls-answer-sentences : AsManyRows text (lent I S O A) → (xs : List Item) → Answers text r I′ S′ O′ A′ xs ↔ Sentence e text xs
   calls-answer-sentences rows xs = (call-sentence xs, λ d. said xs (sentence-accepted e text (lent I S O A) rows xs d))
+
+-- the same, of a call that answered 0: its text is a sentence of the items that its tables say, and of no others
+pub read-sentence : {e : Entry} (c : Call e) → Sentence e (c .text) (saidBy c)
+read-sentence {e} c =
+    call-sentence e (c .text) (c .I) (c .S) (c .O) (c .A) (answer.Read (c .items) (c .statements) (c .operands) (c .attributes)) (c .I′) (c .S′) (c .O′) (c .A′) (call-reads c) (saidBy c)
+    (record { items = c .items; statements = c .statements; operands = c .operands; attributes = c .attributes; answers = refl; says = refl })
+
+pub said-sentence : {e : Entry} (c : Call e) (xs : List Item) → Sentence e (c .text) xs → saidBy c ≡ xs
+said-sentence {e} c xs d = one-reading e (c .text) (read-sentence c .derives) (d .derives)

@@ -8,18 +8,17 @@ use native.Mathlib.Omega.{arith}
 use lib.Dec.{eqb}
 use lib.ListN.{length, length-append}
 use borrow.Author.Tests.{eq-eqb}
-use Rattle.rules.specs.Bytes.{same}
+use Rattle.rules.specs.Bytes.{same, bit}
 use Rattle.rules.specs.Integers.{number, fits, integer}
 use Rattle.rules.specs.Tokens as T
 use Rattle.rules.specs.Syntax as syntax
-use Rattle.bynames.proofs.WellFormed.{bitByte}
 use Rattle.bynames.proofs.Tokens.{Next, end, bad, found, token}
 use Rattle.bynames.proofs.Reader as R
 use Rattle.bynames.proofs.Reader.{Res, go, P, at}
 use Rattle.bynames.proofs.Moves.{Some}
 use Rattle.bynames.proofs.Steps.{step, before, looks, demands, expects}
 use Rattle.bynames.proofs.BackAttributes.{each-count}
-use Rattle.grammar.proofs.Grammar.{Token, ident, valname, knownBits, int, colon, openParen, closeParen, kindOf, Scope, Typing, no-type, a-type, Operand, a-value, a-constant, Further, no-further, one-further, Operands, no-operands, some-operands, AttributeInner, known-bits, power-of-two, is-negative, non-negative, non-zero, has-external-uses, sign-bits, in-range, RootAttributeInner, demanded-bits, harvested-from-use, Attributes, no-attributes, one-attribute}
+use Rattle.rules.specs.Grammar.{Token, ident, valname, knownBits, int, colon, openParen, closeParen, kindOf, Scope, Typing, no-type, a-type, Operand, a-value, a-constant, Further, no-further, one-further, Operands, no-operands, some-operands, AttributeInner, known-bits, power-of-two, is-negative, non-negative, non-zero, has-external-uses, sign-bits, in-range, RootAttributeInner, demanded-bits, harvested-from-use, Attributes, no-attributes, one-attribute}
 use Rattle.grammar.proofs.Leads.{First, Leads, here, over, leads-cons, leads-split, leads-long}
 
 -- ---- what may follow: no ':' behind an operand; neither ':' nor '(' behind a line
@@ -140,7 +139,7 @@ module _ (s : Scope) where
   unfolding R.rootAttribute R.demandedPattern same
   root-attribute-complete f (demanded-bits {w} e) (over h (over i (over j here))) g =
       step _ (expects s (spelt f))
-      (step _ (expects s (at-ident h)) (step _ (expects s (spelt i)) (step _ (expects s (at-int j)) (rw (each-count bitByte w e, eq-eqb (length w) (length w) refl) (closed-complete _ g)))))
+      (step _ (expects s (at-ident h)) (step _ (expects s (spelt i)) (step _ (expects s (at-int j)) (rw (each-count bit w e, eq-eqb (length w) (length w) refl) (closed-complete _ g)))))
   root-attribute-complete f harvested-from-use (over h here) g = step _ (expects s (spelt f)) (step _ (expects s (at-ident h)) (closed-complete _ g))
 
 -- ---- lists of attributes

@@ -17,7 +17,7 @@ use Rattle.bynames.proofs.Reader.{State, go, reading, accepted}
 use Rattle.bynames.proofs.Moves.{Some, token-some, token-ahead}
 use Rattle.bynames.proofs.Steps.{step, before, looks, expects, keywords}
 use Rattle.simulation.proofs.Items.{entryOf}
-use Rattle.grammar.proofs.Grammar.{Token, valname, word, Scope, Operand, RootAttributeInner, Attributes, Statements, Infer, an-infer, Result, a-result, Cand, a-cand, Item, a-pair, a-candidate, a-left-hand-side, a-right-hand-side, Items, no-items, one-item}
+use Rattle.rules.specs.Grammar.{Token, valname, word, Scope, Operand, RootAttributeInner, Attributes, Statements, Infer, an-infer, Result, a-result, Cand, a-cand, Item, a-pair, a-candidate, a-left-hand-side, a-right-hand-side, Items, no-items, one-item}
 use Rattle.grammar.proofs.Leads.{First, Leads, here, over, leads-cons, leads-split, leads-some, leads-long}
 use Rattle.grammar.proofs.Complete.{Ends, Shut, shut-ends, at-ident, at-valname, operand-complete, operand-ends, attributes-end, root-sort, attributes-complete}
 use Rattle.grammar.proofs.CompleteStatements.{Begins, begins-shut, statements-begin, Closes, closes, closes-begins, statements-complete}

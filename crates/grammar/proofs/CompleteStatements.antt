@@ -15,14 +15,14 @@ use Rattle.rules.specs.Tokens as T
 use Rattle.rules.specs.Syntax as syntax
 use Rattle.rules.specs.Syntax.{Name, onto}
 use Rattle.rules.specs.Listing.{assigns, has}
-use Rattle.bynames.proofs.WellFormed.{sideIn, sideOf, isBlock, blockSize}
+use Rattle.rules.specs.Grammar.{sideIn, sideOf, Token, ident, valname, int, equals, Scope, Typing, Operand, Operands, AttributeInner, Attributes, RightSide, a-var, a-block, a-phi, a-reservedinst, a-reservedconst, an-instruction, Statement, an-assignment, a-pc, a-blockpc, Statements, no-statements, one-statement}
+use Rattle.bynames.proofs.WellFormed.{isBlock, blockSize}
 use Rattle.bynames.proofs.Tokens.{Next, found, token}
 use Rattle.bynames.proofs.InstructionWords.{instruction-word}
 use Rattle.bynames.proofs.Reader as R
 use Rattle.bynames.proofs.Reader.{go, bind, at}
 use Rattle.bynames.proofs.Moves.{Some, token-some}
 use Rattle.bynames.proofs.Steps.{step, before, looks, expects, keywords}
-use Rattle.grammar.proofs.Grammar.{Token, ident, valname, int, equals, Scope, Typing, Operand, Operands, AttributeInner, Attributes, RightSide, a-var, a-block, a-phi, a-reservedinst, a-reservedconst, an-instruction, Statement, an-assignment, a-pc, a-blockpc, Statements, no-statements, one-statement}
 use Rattle.grammar.proofs.Leads.{First, Leads, here, over, leads-cons, leads-split, leads-some, leads-long}
 use Rattle.grammar.proofs.Complete.{Ends, Shut, shut-ends, first-ends, spelt, at-ident, at-valname, field-complete, typing-complete, operand-complete, operand-ends, further-complete, operands-complete, attributes-end, own-sort, attributes-complete}
 

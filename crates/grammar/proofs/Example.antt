@@ -15,7 +15,7 @@ use Rattle.rules.specs.Tokens.{tokenAt}
 use Rattle.rules.specs.Integers as I
 use Rattle.rules.specs.Integers.{opposite}
 use Rattle.rules.specs.Syntax as syntax
-use Rattle.grammar.proofs.Grammar.{Token, ident, valname, int, colon, equals, openParen, closeParen, word, Written, Lexes, at-end, at-token, no-type, a-type, a-value, a-constant, non-zero, no-attributes, one-attribute, a-var, an-assignment, no-statements, one-statement, a-cand, a-candidate, Items, no-items, one-item, Sentence}
+use Rattle.rules.specs.Grammar.{Token, ident, valname, int, colon, equals, openParen, closeParen, word, Written, Lexes, at-end, at-token, no-type, a-type, a-value, a-constant, non-zero, no-attributes, one-attribute, a-var, an-assignment, no-statements, one-statement, a-cand, a-candidate, Items, no-items, one-item, Sentence}
 
 abbrev text : List ℕ
 text = bytes "%0:i8=var (nonZero)\ncand %0 -07 ; so"

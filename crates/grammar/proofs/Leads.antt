@@ -13,7 +13,7 @@ use Rattle.bynames.proofs.Tokens.{Next, end, found, token}
 use Rattle.bynames.proofs.Located.{spelt, located}
 use Rattle.bynames.proofs.Reader.{ahead}
 use Rattle.bynames.proofs.Moves.{Some, token-some, token-ahead}
-use Rattle.grammar.proofs.Grammar.{Token, Written, Lexes, at-end, at-token}
+use Rattle.rules.specs.Grammar.{Token, Written, Lexes, at-end, at-token}
 
 -- the next token is so, and this text stands behind it
 pub record First (x : Token) (n : Next) : Type 0 where

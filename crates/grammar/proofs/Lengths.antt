@@ -1,6 +1,6 @@
 -- How long each part of a sentence prints: no part needs more than two bytes for each byte of its tokens, and each statement is listed once at most.
 -- Assumes nothing.
-use mathlib.Core.Path.{_≡_, refl, sym, ap, _∙_, subst}
+use mathlib.Core.Path.{_≡_, refl, ap}
 use mathlib.Core.Logic.{inl, inr}
 use mathlib.Core.List.{List, [], _∷_, _++_}
 use Prim.Native.Nat.{ℕ, _+_, _*_, _≤_}
@@ -11,13 +11,14 @@ use Rattle.rules.specs.Bytes.{bytes}
 use Rattle.rules.specs.Integers.{decimal}
 use Rattle.rules.specs.Instructions.{instructionName}
 use Rattle.rules.specs.Syntax as syntax
-use Rattle.rules.specs.Syntax.{Name, onto, scope}
+use Rattle.rules.specs.Syntax.{Name}
 use Rattle.rules.specs.Printing as print
-use Rattle.rules.specs.Meaning.{Mem, Reach, here, there}
+use Rattle.rules.specs.Meaning.{Mem}
 use Rattle.rules.specs.Listing.{listedBefore, listedBetween}
-use Rattle.lines.proofs.Tails.{line-tail}
-use Rattle.bynames.proofs.Listed.{InOrder, listed, Lists}
-use Rattle.grammar.proofs.Grammar.{Token, equals, closeParen, Scope, Typing, no-type, a-type, Operand, a-value, a-constant, Further, no-further, one-further, Operands, no-operands, some-operands, AttributeInner, known-bits, power-of-two, is-negative, non-negative, non-zero, has-external-uses, sign-bits, in-range, RootAttributeInner, demanded-bits, harvested-from-use, Attributes, no-attributes, one-attribute, RightSide, a-var, a-block, a-phi, a-reservedinst, a-reservedconst, an-instruction, Statement, an-assignment, a-pc, a-blockpc, Statements, no-statements, one-statement, Infer, an-infer, Result, a-result, Cand, a-cand, Item, a-pair, a-candidate, a-left-hand-side, a-right-hand-side, Items, no-items, one-item}
+use Rattle.laws.proofs.Tails.{line-tail}
+use Rattle.bynames.proofs.Listed.{Lists}
+use Rattle.bynames.proofs.Costs.{costs, listed-cost}
+use Rattle.rules.specs.Grammar.{Token, equals, closeParen, Scope, Typing, no-type, a-type, Operand, a-value, a-constant, Further, no-further, one-further, Operands, no-operands, some-operands, AttributeInner, known-bits, power-of-two, is-negative, non-negative, non-zero, has-external-uses, sign-bits, in-range, RootAttributeInner, demanded-bits, harvested-from-use, Attributes, no-attributes, one-attribute, RightSide, a-var, a-block, a-phi, a-reservedinst, a-reservedconst, an-instruction, Statement, an-assignment, a-pc, a-blockpc, Statements, no-statements, one-statement, Infer, an-infer, Result, a-result, Cand, a-cand, Item, a-pair, a-candidate, a-left-hand-side, a-right-hand-side, Items, no-items, one-item}
 use Rattle.grammar.proofs.Shortest.{integer-short, field-short, width-short}
 use Rattle.grammar.proofs.Weights.{at-least, weights, weights-append}
 
@@ -129,72 +130,15 @@ statement-long (a-blockpc {b} {k = k} {w} {t} {u} {x} {y} f g d e) r =
 cost : syntax.Statement → ℕ
 cost x = length (print.line x [])
 
-abbrev costs : List syntax.Statement → ℕ
-costs [] = 0
-costs (x ∷ l) = cost x + costs l
-
-lines-cost : (l : List syntax.Statement) (r : List ℕ) → length (print.lines l r) ≡ costs l + length r
+lines-cost : (l : List syntax.Statement) (r : List ℕ) → length (print.lines l r) ≡ costs cost l + length r
 unfolding cost
 lines-cost [] r = omega arith
 lines-cost (x ∷ l) r = omega (arith, ap length (line-tail x (print.lines l r)), length-append (print.line x []) (print.lines l r), lines-cost l r)
 
-costs-append : (l u : List syntax.Statement) → costs (l ++ u) ≡ costs l + costs u
-costs-append [] u = omega arith
-costs-append (x ∷ l) u = omega (arith, costs-append l u)
-
-costs-onto : (l u : List syntax.Statement) → costs (onto l u) ≡ costs l + costs u
-costs-onto [] u = omega arith
-costs-onto (x ∷ l) u = omega (arith, costs-onto l (x ∷ u))
-
-statements-cost : {s : Scope} {t : List Token} {l : List syntax.Statement} → Statements s t l → costs l ≤ 2 * weights t
+statements-cost : {s : Scope} {t : List Token} {l : List syntax.Statement} → Statements s t l → costs cost l ≤ 2 * weights t
 unfolding cost
 statements-cost no-statements = omega arith
 statements-cost (one-statement {t = t} {u} d r) = omega (arith, statement-long d [], statements-cost r, weights-append t u)
-
--- ---- a list of statements without one of them
-without : (x : syntax.Statement) (t : List syntax.Statement) → Mem x t → List syntax.Statement
-without x [] h = []
-without x (y ∷ t) (inl e) = t
-without x (y ∷ t) (inr h) = y ∷ without x t h
-
-without-cost : (x : syntax.Statement) (t : List syntax.Statement) (h : Mem x t) → costs t ≡ cost x + costs (without x t h)
-unfolding without
-without-cost x [] h = absurd h
-without-cost x (y ∷ t) (inl e) = ap (λ (z : syntax.Statement). cost z + costs t) (sym e)
-without-cost x (y ∷ t) (inr h) = omega (arith, without-cost x t h)
-
-without-mem : (x : syntax.Statement) (t : List syntax.Statement) (h : Mem x t) (z : syntax.Statement) → Mem z t → (z ≡ x → ⊥) → Mem z (without x t h)
-unfolding without
-without-mem x [] h z k n = absurd h
-without-mem x (y ∷ t) (inl e) z (inl q) n = absurd (n (q ∙ sym e))
-without-mem x (y ∷ t) (inl e) z (inr k) n = k
-without-mem x (y ∷ t) (inr h) z (inl q) n = inl q
-without-mem x (y ∷ t) (inr h) z (inr k) n = inr (without-mem x t h z k n)
-
--- what stands in order behind others is none of them
-order-apart : (l t : List syntax.Statement) → InOrder t l → (z : syntax.Statement) → Mem z l → Mem z t → ⊥
-order-apart [] t o z h k = h
-order-apart (x ∷ l) t o z (inl e) k = o .0 (subst (λ (y : syntax.Statement). Mem y t) e k)
-order-apart (x ∷ l) t o z (inr h) k = order-apart l (x ∷ t) (o .2) z h (inr k)
-
--- so what is listed costs no more than all statements
-order-cost : (l t u : List syntax.Statement) → InOrder t l → ((z : syntax.Statement) → Mem z l → Mem z u) → costs l ≤ costs u
-order-cost [] t u o f = omega arith
-order-cost (x ∷ l) t u o f =
-    let h : Mem x u = f x (inl refl) in
-    let ih = order-cost l (x ∷ t) (without x u h) (o .2) (λ z k. without-mem x u h z (f z (inr k)) (λ e. order-apart l (x ∷ t) (o .2) z k (inl e))) in
-    omega (arith, without-cost x u h)
-
-reach-mem : {l : List syntax.Statement} {b : syntax.Assignment} {n : Name} → Reach l b n → Mem (syntax.assignment b) l
-reach-mem (here h e) = h
-reach-mem (there a h e m r) = reach-mem r
-
-module _ (x : syntax.Item) (lists : Lists x) where
-  listed-scope : (z : syntax.Statement) → Mem z (listed x) → Mem z (scope x)
-  listed-scope z h = let g = lists .other z h in subst (λ (y : syntax.Statement). Mem y (scope x)) (sym (g .1)) (reach-mem (g .2 .2))
-
-  listed-cost : costs (listedBefore x) + costs (listedBetween x) ≤ costs (x .before) + costs (x .between)
-  listed-cost = omega (arith, order-cost (listed x) [] (scope x) (lists .order) listed-scope, costs-append (listedBefore x) (listedBetween x), costs-onto (x .between) (onto (x .before) []), costs-onto (x .before) [])
 
 -- ---- items
 infer-long : {s : Scope} {t : List Token} {n : Name} {l : List syntax.RootAttribute} → Infer s t n l → (r : List ℕ) → length (print.inferLine n l r) ≤ 2 * weights t + length r
@@ -210,12 +154,12 @@ cand-long (a-cand {t} {u} {v} {x} {y} {l} d e a) r =
 
 -- what an item prints, by its parts
 item-length : (x : syntax.Item) → Lists x → (f g m : ℕ) (r : List ℕ) → ((z : List ℕ) → length (print.firstClosing (x .closing) z) ≤ f + length z) → length (print.secondClosing (x .closing) r) ≤ g + length r
-    → costs (x .before) + costs (x .between) ≤ m → length (print.printed x r) ≤ m + f + g + length r
+    → costs cost (x .before) + costs cost (x .between) ≤ m → length (print.printed x r) ≤ m + f + g + length r
 unfolding print.printed
 item-length x lists f g m r first second all =
     let y : List ℕ = print.secondClosing (x .closing) r in
     let z : List ℕ = print.lines (listedBetween x) y in
-    omega (arith, lines-cost (listedBefore x) (print.firstClosing (x .closing) z), first z, lines-cost (listedBetween x) y, listed-cost x lists)
+    omega (arith, lines-cost (listedBefore x) (print.firstClosing (x .closing) z), first z, lines-cost (listedBetween x) y, listed-cost cost x lists)
 
 item-long : {e : Entry} {t : List Token} {x : syntax.Item} → Item e t x → Lists x → (r : List ℕ) → length (print.printed x r) ≤ 2 * weights t + length r
 item-long (a-pair {t} {u} {v} {w} {b} {d} {n} {l} {o} p i q k) lists r =

@@ -1,6 +1,5 @@
--- The grammar, and that reading accepts exactly its sentences. Grammar is the definition; the theorem is Accepts, and Calls tells it of the public read calls.
+-- Reading accepts exactly the sentences of the grammar (rules, Grammar). The theorem is Accepts, and Calls tells it of the public read calls.
 -- PrintedLength says how long a print can be. All else leads to them.
-pub mod Grammar
 pub mod Leads
 -- What the reader by names takes, the grammar says.
 pub mod Sound

@@ -13,13 +13,13 @@ use Rattle.rules.specs.Tokens as T
 use Rattle.rules.specs.Syntax as syntax
 use Rattle.rules.specs.Syntax.{Name}
 use Rattle.rules.specs.Listing.{has}
+use Rattle.rules.specs.Grammar.{sideOf, Token, ident, valname, int, comma, colon, equals, openParen, closeParen, openBracket, Written, Scope, Typing, no-type, a-type, Operand, a-value, a-constant, Further, no-further, one-further, Operands, no-operands, some-operands}
 use Rattle.laws.proofs.Same.{same-true}
-use Rattle.bynames.proofs.WellFormed.{sideOf, isBlock, blockSize}
+use Rattle.bynames.proofs.WellFormed.{isBlock, blockSize}
 use Rattle.bynames.proofs.Tokens.{Next, end, bad, found, token}
 use Rattle.bynames.proofs.Reader as R
 use Rattle.bynames.proofs.Reader.{State, go, stop, P, bind}
 use Rattle.bynames.proofs.AcceptedParts.{Ok, seq, either, choice}
-use Rattle.grammar.proofs.Grammar.{Token, ident, valname, int, comma, colon, equals, openParen, closeParen, openBracket, Written, Scope, Typing, no-type, a-type, Operand, a-value, a-constant, Further, no-further, one-further, Operands, no-operands, some-operands}
 use Rattle.grammar.proofs.Leads.{Leads, here, over, leads-join}
 
 -- an answer, by a rule of the grammar over the tokens that were taken; and the scope behind it

@@ -7,18 +7,17 @@ use Prim.Native.Nat.{ℕ, zero, suc}
 use lib.Dec.{eqb}
 use lib.ListN.{length, drop}
 use borrow.Author.Tests.{eqb-true}
-use Rattle.rules.specs.Bytes.{bytes, count, same}
+use Rattle.rules.specs.Bytes.{bytes, count, same, bit}
 use Rattle.rules.specs.Integers.{fits, integer}
 use Rattle.rules.specs.Tokens as T
 use Rattle.rules.specs.Syntax as syntax
 use Rattle.laws.proofs.Same.{same-true}
-use Rattle.bynames.proofs.WellFormed.{bitByte}
 use Rattle.bynames.proofs.Tokens.{Next}
 use Rattle.bynames.proofs.Reader as R
 use Rattle.bynames.proofs.Reader.{State, P}
 use Rattle.bynames.proofs.AcceptedTokens.{count-each}
 use Rattle.bynames.proofs.AcceptedParts.{Ok, seq, either}
-use Rattle.grammar.proofs.Grammar.{Token, ident, knownBits, int, comma, equals, openParen, closeParen, openBracket, word, Scope, AttributeInner, known-bits, power-of-two, is-negative, non-negative, non-zero, has-external-uses, sign-bits, in-range, RootAttributeInner, demanded-bits, harvested-from-use, Attributes, no-attributes, one-attribute}
+use Rattle.rules.specs.Grammar.{Token, ident, knownBits, int, comma, equals, openParen, closeParen, openBracket, word, Scope, AttributeInner, known-bits, power-of-two, is-negative, non-negative, non-zero, has-external-uses, sign-bits, in-range, RootAttributeInner, demanded-bits, harvested-from-use, Attributes, no-attributes, one-attribute}
 use Rattle.grammar.proofs.Leads.{Leads, here, leads-on}
 use Rattle.grammar.proofs.Sound.{Stays, Took, took, is-ident, is-int, is-comma, is-equals, is-open, is-close, is-bracket, seq-look, demand-sound, expect-sound, Number, int-sound, field-sound}
 
@@ -123,8 +122,8 @@ module _ (s : Scope) (n : Next) where
   demanded-sound w i f =
       seq (Took s (w .next) T.int) (Enclosed RootAttributeInner s n) (R.expect T.int w) _ (expect-sound T.int s w i)
       (λ l w₁ g.
-      either (Enclosed RootAttributeInner s n) (eqb (count bitByte l) (length l)) _ _ w₁
-      (λ e. closed-sound RootAttributeInner s n (syntax.demandedBits l) (word "demandedBits" ∷ equals ∷ int l ∷ []) (demanded-bits (count-each bitByte l (eqb-true (count bitByte l) (length l) e))) w₁ (g .scope)
+      either (Enclosed RootAttributeInner s n) (eqb (count bit l) (length l)) _ _ w₁
+      (λ e. closed-sound RootAttributeInner s n (syntax.demandedBits l) (word "demandedBits" ∷ equals ∷ int l ∷ []) (demanded-bits (count-each bit l (eqb-true (count bit l) (length l) e))) w₁ (g .scope)
       (λ u m p. f (int l ∷ u) m (took (int l) is-int g p))) (λ e. tt))
 
 pub attribute-sound : (s : Scope) (w : State) → w .scope ≡ s → Ok (Enclosed AttributeInner s (w .next)) (R.attribute w)

@@ -24,7 +24,7 @@ use Rattle.bynames.proofs.Reader as R
 use Rattle.bynames.proofs.Reader.{State, Res, go, stop, P, bind, at, fuelOf, Inferred, reading, accepted}
 use Rattle.bynames.proofs.AcceptedParts.{Ok, seq, either}
 use Rattle.simulation.proofs.Items.{entryOf}
-use Rattle.grammar.proofs.Grammar.{Token, ident, valname, word, Scope, Operand, RootAttributeInner, Attributes, Statements, Infer, an-infer, a-result, a-cand, Item, a-pair, a-candidate, a-left-hand-side, a-right-hand-side, Items, no-items, one-item}
+use Rattle.rules.specs.Grammar.{Token, ident, valname, word, Scope, Operand, RootAttributeInner, Attributes, Statements, Infer, an-infer, a-result, a-cand, Item, a-pair, a-candidate, a-left-hand-side, a-right-hand-side, Items, no-items, one-item}
 use Rattle.grammar.proofs.Leads.{Leads, here, over, leads-join}
 use Rattle.grammar.proofs.Sound.{Stays, Took, took, is-ident, is-valname, expect-sound, keyword-sound, Tested, tested, known-sound, operand-sound}
 use Rattle.grammar.proofs.SoundAttributes.{attributes-sound, root-attribute-sound}

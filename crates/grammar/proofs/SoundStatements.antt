@@ -13,14 +13,13 @@ use Rattle.rules.specs.Tokens as T
 use Rattle.rules.specs.Syntax as syntax
 use Rattle.rules.specs.Syntax.{onto}
 use Rattle.rules.specs.Listing.{has}
+use Rattle.rules.specs.Grammar.{sideOf, ident, valname, int, equals, word, Scope, Typing, Operand, AttributeInner, Attributes, RightSide, a-var, a-block, a-phi, a-reservedinst, a-reservedconst, an-instruction, Statement, an-assignment, a-pc, a-blockpc, Statements, no-statements, one-statement}
 use Rattle.laws.proofs.Same.{same-true}
 use Rattle.laws.proofs.Names.{instruction-named}
-use Rattle.bynames.proofs.WellFormed.{sideOf}
 use Rattle.bynames.proofs.Tokens.{Next}
 use Rattle.bynames.proofs.Reader as R
 use Rattle.bynames.proofs.Reader.{State, P, fuelOf}
 use Rattle.bynames.proofs.AcceptedParts.{Ok, seq, either}
-use Rattle.grammar.proofs.Grammar.{ident, valname, int, equals, word, Scope, Typing, Operand, AttributeInner, Attributes, RightSide, a-var, a-block, a-phi, a-reservedinst, a-reservedconst, an-instruction, Statement, an-assignment, a-pc, a-blockpc, Statements, no-statements, one-statement}
 use Rattle.grammar.proofs.Leads.{Leads, here, leads-join}
 use Rattle.grammar.proofs.Sound.{Takes, Stays, Took, took, is-ident, is-valname, is-int, is-equals, seq-look, expect-sound, keyword-sound, Number, field-sound, Tested, tested, fresh-sound, blocked-sound, typing-sound, operand-sound, Furthers, further-sound, OperandsOf, operands-sound}
 use Rattle.grammar.proofs.SoundAttributes.{attributes-sound, attribute-sound}

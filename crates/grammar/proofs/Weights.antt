@@ -14,7 +14,7 @@ use Rattle.bynames.proofs.Tokens.{Next, end, token}
 use Rattle.bynames.proofs.AcceptedTokens.{Told, Good, token-good}
 use Rattle.bynames.proofs.Reader.{ahead}
 use Rattle.bynames.proofs.Moves.{Some, token-some, token-ahead}
-use Rattle.grammar.proofs.Grammar.{Token, ident, valname, knownBits, int, comma, colon, equals, openParen, closeParen, openBracket, Written}
+use Rattle.rules.specs.Grammar.{Token, ident, valname, knownBits, int, comma, colon, equals, openParen, closeParen, openBracket, Written}
 use Rattle.grammar.proofs.Leads.{Leads, here, over}
 
 -- a number, or a bound that it is to reach

@@ -1,1 +1,1 @@
-// A grammar, and that reading accepts exactly its sentences. No code.
+// Reading accepts exactly the sentences of the grammar (rules, Grammar). No code.

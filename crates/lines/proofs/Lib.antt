@@ -1,5 +1,4 @@
 -- Laws that belong to no one function. They assume nothing.
-pub mod Tails
 pub mod Seen
 pub mod Sides
 pub mod Lines

@@ -1,8 +1,7 @@
--- What the demands speak of: a read call that answered 0 (`Call`, of simulation), and a print call of what it left that answered 0 (`Print`).
--- `Reads` and `Prints` are what the public calls ensure, so what follows holds of the bytes that a caller has in hand.
+-- What a print call of what a read call left writes: the bytes of the items that the read left.
 -- Assumes nothing.
 use Prim.Native.Nat.{ℕ, _≤_}
-use mathlib.Core.Path.{_≡_, refl, sym, ap, _∙_}
+use mathlib.Core.Path.{_≡_, refl, sym, ap, _∙_, subst}
 use mathlib.Core.Bool.{Bool, true, false, cond}
 use mathlib.Core.List.{List, _++_}
 use native.Mathlib.Omega.{arith}
@@ -14,37 +13,16 @@ use Rattle.rules.specs.declared.Entry.{Entry}
 use Rattle.rules.specs.declared.Answer.{Answer}
 use Rattle.rules.specs.declared.Answer.the-variants as answer
 use Rattle.rules.specs.Printing.{printedAll}
-use Rattle.rules.specs.WellFormed.{Counts, counts}
-use Rattle.rules.specs.Answers.{lent}
-use Rattle.rules.specs.Prints.{moreWords, moreBytes, whole, wordsNeeded, fitting, printOf, printing, printAnswer, outputAfter, Prints}
+use Rattle.rules.specs.Answers.{lent, reportOf, printReport}
+use Rattle.rules.specs.Prints as print
+use Rattle.rules.specs.Prints.{moreWords, moreBytes, whole, wordsNeeded, fitting, printOf, printing, printAnswer, outputAfter, PrintEnds}
+use Rattle.rules.specs.Calls.{Call, countsOf, saidBy, PrintsOf, Print, written}
 use Rattle.bynames.proofs.Reader as names
 use Rattle.simulation.proofs.Left.{left-say}
 use Rattle.simulation.proofs.Items.{entryOf}
 use Rattle.simulation.proofs.Whole.{accepted-by-names}
-use Rattle.simulation.proofs.Calls.{Call, saidBy}
+use Rattle.simulation.proofs.Calls.{call-reads}
 use Rattle.accepted.proofs.Formed.{call-formed}
-
--- the rows that a call counted
-abbrev pub countsOf : {e : Entry} → Call e → Counts
-countsOf c = counts (c .items) (c .statements) (c .operands) (c .attributes)
-
--- a print call of what a read call left, with a work area and an output: its answer, and the two as it left them
-abbrev pub PrintsOf : {e : Entry} → Call e → List ℕ → List ℕ → Answer → List ℕ → List ℕ → Type 0
-PrintsOf c = Prints (c .text) (c .I′) (c .S′) (c .O′) (c .A′) (countsOf c)
-
--- a print call that answered 0 with so many bytes written
-pub record Print (e : Entry) : Type 0 where
-  pub call : Call e
-  pub work : List ℕ
-  pub output : List ℕ
-  pub bytes : ℕ
-  pub work′ : List ℕ
-  pub output′ : List ℕ
-  pub prints : PrintsOf call work output (answer.Printed bytes) work′ output′
-
--- the bytes that it wrote
-abbrev pub written : {e : Entry} → Print e → List ℕ
-written p = take (p .bytes) (p .output′)
 
 -- a print that is neither of the first two is the third
 whole-only : (a b : Bool) (k l : ℕ) (s : List ℕ) {n : ℕ} → printAnswer (cond a (moreWords k) (cond b (moreBytes l) (whole s))) ≡ answer.Printed n → cond a (moreWords k) (cond b (moreBytes l) (whole s)) ≡ whole s
@@ -68,7 +46,7 @@ printed-long s n h = cc
 -- What a read left says the items that a reader by names takes from the text: all of them, and nothing else.
 pub call-named : {e : Entry} (c : Call e) → names.reading (entryOf e) (c .text) ≡ names.accepted (saidBy c)
 call-named {e} c =
-    let y = left-say e (c .text) (c .I) (c .S) (c .O) (c .A) (c .I′) (c .S′) (c .O′) (c .A′) (c .items) (c .statements) (c .operands) (c .attributes) (c .reads) in
+    let y = left-say e (c .text) (c .I) (c .S) (c .O) (c .A) (c .I′) (c .S′) (c .O′) (c .A′) (c .items) (c .statements) (c .operands) (c .attributes) (call-reads c) in
     accepted-by-names e (c .text) (lent (c .I) (c .S) (c .O) (c .A)) (y .tables) (y .reads) ∙ ap names.accepted (sym (y .says))
 
 module _ {e : Entry} (c : Call e) where
@@ -102,10 +80,28 @@ module _ {e : Entry} (c : Call e) where
     unfolding printAnswer
     enough-accepts h k p = p .answers ∙ ap printAnswer (enough-printing (length work) (length output) h k)
 
+-- an accepted print is told by 0, and no refusal is
+told-printed : (w : print.Print) (n : ℕ) → reportOf (printAnswer w) ≡ printReport n → printAnswer w ≡ answer.Printed n
+unfolding reportOf printAnswer
+told-printed print.malformed n z = absurd (let y : _≡_ {A = ℕ} 8 0 = cc in omega arith)
+told-printed (print.moreWords m) n z = absurd (let y : _≡_ {A = ℕ} 9 0 = cc in omega arith)
+told-printed (print.moreBytes m) n z = absurd (let y : _≡_ {A = ℕ} 10 0 = cc in omega arith)
+told-printed (print.whole s) n z = let same : length s ≡ n = cc in rw same refl
+
+pub report-printed : (n : ℕ) → reportOf (answer.Printed n) ≡ printReport n
+unfolding reportOf
+report-printed n = refl
+
+print-answered : (w : print.Print) {work output : List ℕ} {r : Answer} {work′ output′ : List ℕ} {n : ℕ} → PrintEnds w work output r work′ output′ → reportOf r ≡ printReport n → r ≡ answer.Printed n
+print-answered w {n = n} h q = h .answers ∙ told-printed w n (ap reportOf (sym (h .answers)) ∙ q)
+
 module _ {e : Entry} (p : Print e) where
+  accepted-print : PrintsOf (p .call) (p .work) (p .output) (answer.Printed (p .bytes)) (p .work′) (p .output′)
+  accepted-print = subst (λ (z : Answer). PrintsOf (p .call) (p .work) (p .output) z (p .work′) (p .output′)) (print-answered (printing (p .call .text) (p .call .I′) (p .call .S′) (p .call .O′) (p .call .A′) (countsOf (p .call)) (length (p .work)) (length (p .output))) (p .prints) (p .tells)) (p .prints)
+
   -- What a print wrote: the bytes of the items that the read left, and as many as it answered.
   pub written-is : written p ≡ printedAll (saidBy (p .call))
-  written-is = wrote-taken (accepted-wrote (p .call) (p .prints))
+  written-is = wrote-taken (accepted-wrote (p .call) accepted-print)
 
   pub bytes-is : p .bytes ≡ length (printedAll (saidBy (p .call)))
-  bytes-is = accepted-wrote (p .call) (p .prints) .count
+  bytes-is = accepted-wrote (p .call) accepted-print .count

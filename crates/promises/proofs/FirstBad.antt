@@ -13,6 +13,7 @@ use Rattle.rules.specs.declared.Range.{Range}
 use Rattle.rules.specs.declared.Checked.the-variants.{WellFormed, IllFormed}
 use Rattle.rules.specs.Bytes.{inside, far}
 use Rattle.rules.specs.Utf8.{sequences, lies, longest, seqLen, checked}
+use Rattle.promises.specs.Sequences.{FirstBad}
 use Rattle.laws.proofs.Cases.{by-cases}
 use Rattle.laws.proofs.Spaces.{far-le}
 use Rattle.laws.proofs.Tests.{and-left, and-right}
@@ -80,11 +81,6 @@ far-cut zero (x ∷ s) l =
     let on = far-past n s (omega arith) in
     let cut : seqLen (x ∷ take (far seqLen n s) s) ≡ seqLen (x ∷ s) = sequence-cut (suc (far seqLen n s)) (x ∷ s) (omega arith) (omega arith) in
     rw t (rw cut (rw t (ap suc (far-cut n s (omega arith))))))
-
-pub record FirstBad (text : List ℕ) (p : ℕ) : Type 0 where
-  pub within : p < length text
-  pub before : checked (take p text) ≡ WellFormed
-  pub there : seqLen (drop p text) ≡ 0
 
 whole-checked : (s : List ℕ) → far seqLen 0 s ≡ length s → checked s ≡ WellFormed
 whole-checked s h = rw (eq-eqb (far seqLen 0 s) (length s) h) refl

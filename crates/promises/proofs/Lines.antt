@@ -9,23 +9,19 @@ use native.Mathlib.Omega.{arith}
 use borrow.Author.Tests.{leb-true, eqb-true, ne-eqb}
 use lib.Dec.{eqb, leb}
 use lib.ListN.{length, getD}
-use Rattle.rules.specs.Bytes.{bytes, inside, digit, letter, nameByte, patternByte, lineByte}
+use Rattle.rules.specs.Bytes.{bytes, inside, digit, letter, nameByte, patternByte, lineByte, bit}
 use Rattle.rules.specs.Integers.{decimal}
 use Rattle.rules.specs.Instructions.{Instruction, instructions, instructionName, _takes_}
 use Rattle.rules.specs.Tokens.{intStart}
 use Rattle.rules.specs.Syntax.{Name, Typing, untyped, typed, Operand, value, constant, RightSide, var, block, phi, reservedinst, reservedconst, instruction, Attribute, knownBits, powerOfTwo, negative, nonNegative, nonZero, hasExternalUses, signBits, range, RootAttribute, demandedBits, harvestedFromUse, Assignment, assignment, Closing, inferResult, cand, infer, result}
 use Rattle.rules.specs.Printing.{name, number, feed, typing, operand, further, operands, side, attribute, rootAttribute, attributes, line, inferLine, resultLine, candLine, firstClosing}
-use Rattle.rules.specs.Meaning.{All}
+use Rattle.rules.specs.Meaning.{All, Each}
+use Rattle.promises.specs.Lines.{unfed}
 use Rattle.laws.proofs.Tests.{and-left, and-right}
-use Rattle.bynames.proofs.WellFormed.{Each, IsName, IsPattern, bitByte, TypingOk, OperandOk, SideOk, AttributeOk, RootAttributeOk, AssignmentOk, ClosingOk}
+use Rattle.bynames.proofs.WellFormed.{IsName, IsPattern, TypingOk, OperandOk, SideOk, AttributeOk, RootAttributeOk, AssignmentOk, ClosingOk}
 use Rattle.bynames.proofs.Tokens.{or-cases}
 use Rattle.bynames.proofs.Decimals.{decimal-printed}
 use Rattle.bynames.proofs.Ascii.{small}
-
--- whether no byte of a list is a line feed
-abbrev pub unfed : List ℕ → Bool
-unfed [] = true
-unfed (b ∷ l) = lineByte b && unfed l
 
 -- a part of a line: what it puts before any text is the same bytes, none a line feed
 pub record Part (f : List ℕ → List ℕ) : Type 0 where
@@ -82,8 +78,7 @@ pattern-high : (b : ℕ) → patternByte b ≡ true → 11 ≤ b
 unfolding patternByte
 pattern-high b e = or-cases (eqb b 48) _ e (is-high 48 b (omega arith)) (λ e. or-cases (eqb b 49) (eqb b 120) e (is-high 49 b (omega arith)) (is-high 120 b (omega arith)))
 
-bit-high : (b : ℕ) → bitByte b ≡ true → 11 ≤ b
-unfolding bitByte
+bit-high : (b : ℕ) → bit b ≡ true → 11 ≤ b
 bit-high b e = or-cases (eqb b 48) (eqb b 49) e (is-high 48 b (omega arith)) (is-high 49 b (omega arith))
 
 start-high : (b : ℕ) → intStart b ≡ true → 11 ≤ b
@@ -177,7 +172,7 @@ attribute-part (range a b) o =
 
 root-attribute-part : (a : RootAttribute) → RootAttributeOk a → Part (rootAttribute a)
 unfolding lineByte
-root-attribute-part (demandedBits p) o = before (fixed (bytes "demandedBits=") refl) (pattern-part bitByte bit-high p o)
+root-attribute-part (demandedBits p) o = before (fixed (bytes "demandedBits=") refl) (pattern-part bit bit-high p o)
 root-attribute-part harvestedFromUse o = fixed (bytes "harvestedFromUse") refl
 
 attributes-part : {A : Type 0} (one : A → List ℕ → List ℕ) (Ok : A → Type 0) → ((a : A) → Ok a → Part (one a)) → (l : List A) → All Ok l → Part (attributes one l)

@@ -1,67 +1,34 @@
 -- Demand 3, what a print lists.
--- What a print wrote is, item by item, lines: those of some statements, the first closing line, those of more statements, and the second closing line, if there is one.
+-- What a print wrote of a text that is a sentence of some items is, item by item, lines: those of some statements, the first closing line, those of more statements, and the second closing line, if there is one.
 -- The statements so listed are the assignments that can be reached from the item's roots, each once and after all that it refers to, and no other;
 -- and closing lines stand behind all that they refer to. A line has one line feed, which is its last byte.
 -- Assumes nothing.
 use Prim.Native.Nat.{ℕ}
 use mathlib.Core.Path.{_≡_, refl, sym, ap, _∙_, subst}
-use mathlib.Core.Bool.{true}
 use mathlib.Core.Logic.{inl, inr}
 use mathlib.Core.List.{List, [], _∷_, _++_, append-assoc}
 use Rattle.rules.specs.declared.Entry.{Entry}
-use Rattle.rules.specs.Syntax.{Name, Assignment, Statement, assignment, pc, blockpc, Closing, inferResult, cand, infer, result, Item, onto, firstRoots, secondRoots}
-use Rattle.rules.specs.Meaning.{Mem, Reachable, All}
+use Rattle.rules.specs.Syntax.{Statement, assignment, pc, blockpc, Closing, inferResult, cand, infer, result, Item, onto}
+use Rattle.rules.specs.Meaning.{Mem, All}
 use Rattle.rules.specs.Listing.{listedBefore, listedBetween}
 use Rattle.rules.specs.Out.{joined}
-use Rattle.rules.specs.Printing.{feed, line, lines, resultLine, firstClosing, secondClosing, printed, printedAll}
+use Rattle.rules.specs.Printing.{line, lines, resultLine, firstClosing, secondClosing, printed, printedAll}
+use Rattle.rules.specs.Calls.{saidBy, Print, written}
+use Rattle.promises.specs.Lines.{linesOf, secondLines, IsLine, ItemLines, ItemByItem, none, more}
 use Rattle.laws.proofs.Members.{all-append}
 use Rattle.bynames.proofs.WellFormed.{ClosingOk, Wf, WfItem}
 use Rattle.bynames.proofs.Canon.{canon-wf}
 use Rattle.bynames.proofs.BackLines.{Plain, wf-below}
 use Rattle.bynames.proofs.BackLists.{Readable, plain-before, plain-between}
 use Rattle.bynames.proofs.AcceptedItems.{accepted-readable}
-use Rattle.bynames.proofs.Listed.{Assigns, InOrder, Lists}
+use Rattle.bynames.proofs.Listed.{Lists}
 use Rattle.bynames.proofs.Reader as names
+use Rattle.rules.specs.Grammar.{Sentence}
+use Rattle.grammar.proofs.Calls.{said-sentence}
 use Rattle.simulation.proofs.Items.{entryOf}
-use Rattle.simulation.proofs.Calls.{saidBy, call-lists}
-use Rattle.promises.proofs.Calls.{Print, written, call-named, written-is}
-use Rattle.promises.proofs.Lines.{unfed, Line, line-stands, assignment-line, result-line, first-line}
-
--- the lines of statements, and the second closing line, if there is one
-abbrev pub linesOf : List Statement → List (List ℕ)
-linesOf [] = []
-linesOf (s ∷ l) = line s [] ∷ linesOf l
-
-abbrev pub secondLines : Closing → List (List ℕ)
-secondLines (inferResult n l o) = resultLine o [] ∷ []
-secondLines (cand x y l) = []
-secondLines (infer n l) = []
-secondLines (result o) = []
-
--- one line feed, the last byte
-abbrev pub IsLine : List ℕ → Type 0
-IsLine s = (t : List ℕ) × (unfed t ≡ true) × (s ≡ t ++ feed [])
-
--- an item's lines, all of them
-pub record ItemLines (x : Item) (all : List (List ℕ)) : Type 0 where
-  -- the statements listed before the first closing line, and those between infer and result
-  pub before : List Statement
-  pub between : List Statement
-  pub lines : all ≡ linesOf before ++ (firstClosing (x .closing) [] ∷ (linesOf between ++ secondLines (x .closing)))
-  pub fed : All IsLine all
-  -- each that can be reached, and no other
-  pub each : (b : Assignment) → Reachable x b → Mem (assignment b) (before ++ between)
-  pub other : (s : Statement) → Mem s (before ++ between) → (b : Assignment) × (s ≡ assignment b) × Reachable x b
-  -- once, and after all that it refers to
-  pub order : InOrder [] (before ++ between)
-  -- and closing lines stand behind all that they refer to
-  pub first : (m : Name) → Mem m (firstRoots (x .closing)) → Assigns m before
-  pub second : (m : Name) → Mem m (secondRoots (x .closing)) → Assigns m (before ++ between)
-
--- a text that is the lines of items, one item after another
-pub data ItemByItem : List Item → List ℕ → Type 0 where
-  none : ItemByItem [] []
-  more : {x : Item} {xs : List Item} {r : List ℕ} (all : List (List ℕ)) → ItemLines x all → ItemByItem xs r → ItemByItem (x ∷ xs) (joined all ++ r)
+use Rattle.simulation.proofs.Calls.{call-lists}
+use Rattle.promises.proofs.Calls.{call-named, written-is}
+use Rattle.promises.proofs.Lines.{Line, line-stands, assignment-line, result-line, first-line}
 
 -- ---- lines joined
 joined-over : (a b : List (List ℕ)) (r : List ℕ) → joined (a ++ b) ++ r ≡ joined a ++ (joined b ++ r)
@@ -153,8 +120,9 @@ items-listed e (x ∷ xs) v l =
     subst (ItemByItem (x ∷ xs)) (sym (item-joined x (v .0 .wf) (printedAll xs)))
     (more (allOf x (v .0 .wf)) (item-lines x (v .0 .wf) (l x (inl refl))) (items-listed e xs (v .1) (λ y h. l y (inr h))))
 
--- the promise
-pub print-lists : {e : Entry} (p : Print e) → ItemByItem (saidBy (p .call)) (written p)
-print-lists {e} p =
-    subst (ItemByItem (saidBy (p .call))) (sym (written-is p))
-    (items-listed (entryOf e) (saidBy (p .call)) (accepted-readable (entryOf e) (p .call .text) (saidBy (p .call)) (call-named (p .call))) (call-lists (p .call)))
+-- the promise: xs are the items that the text is a sentence of
+pub print-lists : {e : Entry} (p : Print e) (xs : List Item) → Sentence e (p .call .text) xs → ItemByItem xs (written p)
+print-lists {e} p xs d =
+    subst (λ (z : List Item). ItemByItem z (written p)) (said-sentence (p .call) xs d)
+    (subst (ItemByItem (saidBy (p .call))) (sym (written-is p))
+    (items-listed (entryOf e) (saidBy (p .call)) (accepted-readable (entryOf e) (p .call .text) (saidBy (p .call)) (call-named (p .call))) (call-lists (p .call))))

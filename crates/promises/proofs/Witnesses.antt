@@ -21,7 +21,8 @@ use Rattle.rules.specs.WellFormed.{Counts, counts}
 use Rattle.rules.specs.Listing.{listedBefore, listedBetween}
 use Rattle.rules.specs.Printing.{printed, printedAll}
 use Rattle.rules.specs.Answers.{start, reading, readChecked, outcome, answerOf, rowsOf, padded, faultNumber, Reads}
-use Rattle.simulation.proofs.Calls.{Call, saidBy}
+use Rattle.rules.specs.Calls.{Call, saidBy}
+use Rattle.simulation.proofs.Calls.{report-read}
 
 -- so many words that are 0
 abbrev pub zeros : ℕ → List ℕ
@@ -115,6 +116,8 @@ callOf x =
       S′ = told x .statements;
       O′ = told x .operands;
       A′ = [];
+      answer = Read (told x .rows .items) (told x .rows .statements) (told x .rows .operands) (told x .rows .attributes);
+      tells = report-read (told x .rows .items) (told x .rows .statements) (told x .rows .operands) (told x .rows .attributes);
       reads = small-reads x;
     }
 

@@ -10,7 +10,8 @@ use lib.Seq.{drop-cons}
 use Rattle.rules.specs.declared.Span.{Span}
 use Rattle.rules.specs.declared.Words.{Words}
 use Rattle.rules.specs.World.{Res, claimAttribute}
-use Rattle.rules.specs.Reading.{attributeRow, closeAttribute, bit, allBits}
+use Rattle.rules.specs.Reading.{attributeRow, closeAttribute, allBits}
+use Rattle.rules.specs.Bytes.{bit}
 use Rattle.tables.specs.Stands.{run}
 
 module _ (m R : Res (Unit {0})) (code : ℕ) where

@@ -24,6 +24,7 @@ ghost use Prim.Native.Nat.{ℕ, _≤_, _<_};
 ghost use mathlib.Core.Bool.{_&&_};
 ghost use lib.Dec.{eqb};
 ghost use lib.ListN.{length};
+ghost use Rattle.rules.specs.Bytes.{bit};
 ghost use Rattle.rules.specs.Reading as R;
 ghost use Rattle.rules.specs.Rows.{_upTo_};
 ghost use Rattle.rules.specs.Tokens.{openParen};
@@ -183,7 +184,7 @@ fn attribute(text: &[u8], s: State, attributes: &mut [u32]) -> State
 
 // Whether a letter is 0 or 1.
 fn is_bit(b: u8) -> bool
-    ensures { λ r. ⌜ r ≡ R.bit b ⌝ }
+    ensures { λ r. ⌜ r ≡ bit b ⌝ }
 {
     b == b'0' || b == b'1'
 }

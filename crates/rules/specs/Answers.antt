@@ -107,11 +107,22 @@ pub record Ends (o : Outcome) (I S O A : List ℕ) (r : Answer) (I′ S′ O′ 
 abbrev pub Reads : Entry → List ℕ → List ℕ → List ℕ → List ℕ → List ℕ → Answer → List ℕ → List ℕ → List ℕ → List ℕ → Type 0
 Reads e text I S O A = Ends (reading e text (lent I S O A)) I S O A
 
--- an answer as a report of six words: number, place, and the four counts; of a print number, and bytes written
+-- Reports of six words: number, place, and the four counts; of a print number, and bytes written.
+-- A read that is accepted with so many rows of each table; a print that is accepted with so many bytes; a refusal, by its number and its place
+abbrev pub readReport : ℕ → ℕ → ℕ → ℕ → List ℕ
+readReport i s o a = 0 ∷ 0 ∷ i ∷ s ∷ o ∷ a ∷ []
+
+abbrev pub printReport : ℕ → List ℕ
+printReport n = 0 ∷ n ∷ 0 ∷ 0 ∷ 0 ∷ 0 ∷ []
+
+abbrev pub refusalReport : ℕ → ℕ → List ℕ
+refusalReport n p = n ∷ p ∷ 0 ∷ 0 ∷ 0 ∷ 0 ∷ []
+
+-- document 01's number and values for each answer
 unfoldable pub reportOf : Answer → List ℕ
-reportOf (answer.Read i s o a) = 0 ∷ 0 ∷ i ∷ s ∷ o ∷ a ∷ []
-reportOf (answer.Printed n) = 0 ∷ n ∷ 0 ∷ 0 ∷ 0 ∷ 0 ∷ []
-reportOf (answer.Refused n p) = n ∷ p ∷ 0 ∷ 0 ∷ 0 ∷ 0 ∷ []
+reportOf (answer.Read i s o a) = readReport i s o a
+reportOf (answer.Printed n) = printReport n
+reportOf (answer.Refused n p) = refusalReport n p
 
 -- the same read, told by a report
 pub record Reports (e : Entry) (text I S O A told I′ S′ O′ A′ : List ℕ) : Type 0 where

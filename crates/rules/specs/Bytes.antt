@@ -38,6 +38,10 @@ nameByte b = letter b || (digit b || (eqb b (byte "_") || eqb b (byte ".")))
 unfoldable pub patternByte : ℕ → Bool
 patternByte b = eqb b (byte "0") || (eqb b (byte "1") || eqb b (byte "x"))
 
+-- the letters of a demandedBits pattern
+abbrev pub bit : ℕ → Bool
+bit b = eqb b (byte "0") || eqb b (byte "1")
+
 -- any byte but line feed
 unfoldable pub lineByte : ℕ → Bool
 lineByte b = not (eqb b 10)

@@ -15,7 +15,10 @@ pub mod Out
 pub mod Syntax
 pub mod Meaning
 pub mod Listing
+pub mod Order
 pub mod Printing
 pub mod View
 pub mod WellFormed
 pub mod Prints
+pub mod Grammar
+pub mod Calls

@@ -1,6 +1,8 @@
 -- What an item means: its kind, its closing lines, and the set of assignments that can be reached from its roots. No order of visiting is in it.
 -- Assumes nothing.
+use Prim.Native.Nat.{ℕ}
 use mathlib.Core.Path.{_≡_}
+use mathlib.Core.Bool.{Bool, true}
 use mathlib.Core.Logic.{_⊎_, _↔_}
 use mathlib.Core.List.{List, [], _∷_}
 use Rattle.rules.specs.Syntax.{Name, Assignment, Statement, assignment, Item, scope, refers, roots}
@@ -14,6 +16,10 @@ Mem x (y ∷ l) = (x ≡ y) ⊎ Mem x l
 abbrev pub All : {A : Type 0} → (A → Type 0) → List A → Type 0
 All P [] = Unit {0}
 All P (x ∷ l) = P x × All P l
+
+-- each number of a list passes a test
+abbrev pub Each : (ℕ → Bool) → List ℕ → Type 0
+Each p = All (λ b. p b ≡ true)
 
 -- among some statements, an assignment is reached from a name: it has that name, or another that has it refers to a name from which it is reached
 pub data Reach (l : List Statement) (b : Assignment) : Name → Type 0 where

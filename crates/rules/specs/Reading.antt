@@ -20,7 +20,7 @@ use Rattle.rules.specs.declared.Row.the-variants.{At, Missing}
 use Rattle.rules.specs.declared.Side.{Side}
 use Rattle.rules.specs.declared.Entry.{Entry}
 use Rattle.rules.specs.declared.Entry.the-variants.{Replacements, LeftHandSides, RightHandSides}
-use Rattle.rules.specs.Bytes.{byte, part, same}
+use Rattle.rules.specs.Bytes.{bit, part, same}
 use Rattle.rules.specs.Tokens.{tokenAt}
 use Rattle.rules.specs.Tokens as kind
 use Rattle.rules.specs.Integers.{Read, number, refused, integer, fits, typeWidth}
@@ -266,9 +266,6 @@ attribute = do
   attributeInner t k
 
 -- a pattern of demandedBits: an integer token whose letters are all 0 or 1
-abbrev pub bit : ℕ → Bool
-bit b = eqb b (byte "0") || eqb b (byte "1")
-
 abbrev pub allBits : List ℕ → Bool
 allBits [] = true
 allBits (b ∷ l) = bit b && allBits l

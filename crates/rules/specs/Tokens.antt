@@ -1,6 +1,6 @@
 -- Tokens, one by one.
 -- Assumes nothing.
-use Prim.Native.Nat.{ℕ, _+_}
+use Prim.Native.Nat.{ℕ, zero, suc, _+_}
 use mathlib.Core.Bool.{Bool, cond, _||_}
 use mathlib.Core.List.{List, [], _∷_}
 use lib.Dec.{eqb, leb}
@@ -102,3 +102,17 @@ after text at = at + gap (drop at text)
 -- the next token of a text at or after a place
 unfoldable pub tokenAt : List ℕ → ℕ → Lexed
 tokenAt text at = placed (after text at) (front (drop (after text at) text))
+
+-- what comes behind a token; behind the end, or behind what is no token, nothing else comes
+unfoldable pub next : List ℕ → Lexed → Lexed
+next text (Found t) = tokenAt text (t .past)
+next text End = End
+next text (Refused p) = Refused p
+
+-- the i-th from one on, and the i-th of a text, counted from 0
+unfoldable pub onward : List ℕ → Lexed → ℕ → Lexed
+onward text l zero = l
+onward text l (suc i) = next text (onward text l i)
+
+abbrev pub nth : List ℕ → ℕ → Lexed
+nth text i = onward text (tokenAt text 0) i

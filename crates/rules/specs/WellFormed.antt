@@ -12,11 +12,10 @@ use Rattle.rules.specs.declared.Item.{Item}
 use Rattle.rules.specs.declared.Statement.{Statement}
 use Rattle.rules.specs.declared.Operand.{Operand}
 use Rattle.rules.specs.declared.Attribute.{Attribute}
-use Rattle.rules.specs.Bytes.{byte, inside, nameByte, patternByte, count, same}
+use Rattle.rules.specs.Bytes.{byte, inside, nameByte, patternByte, bit, count, same}
 use Rattle.rules.specs.Instructions.{arityOf}
 use Rattle.rules.specs.Keywords as keyword
 use Rattle.rules.specs.Rows.{_upTo_, itemLength, statementLength, operandLength, attributeLength, capacity, lettersOf, nameAt, itemAt, statementAt, operandAt, attributeAt, inferResult, candidate, leftHandSide, rightHandSide, instructionCode, keywordCode, valueCode, constantCode, knownBitsCode, signBitsCode, rangeCode, demandedBitsCode, harvestedFromUseCode}
-use Rattle.rules.specs.Reading.{bit}
 use Rattle.rules.specs.Syntax.{flat}
 use Rattle.rules.specs.View.{each, along}
 

@@ -7,9 +7,9 @@ use mathlib.Core.Path.{_≡_}
 use mathlib.Core.List.{List}
 use Rattle.rules.specs.declared.Entry.{Entry}
 use Rattle.rules.specs.Answers.{Lent, refusal, reading}
+use Rattle.rules.specs.Calls.{AsManyRows}
 use Rattle.reading.proofs.Progress as progress
 use Rattle.reading.proofs.Capacity.{NotSeven, Same, same-whatever-lent}
-use Rattle.simulation.proofs.Said.{AsManyRows}
 
 -- the promise
 pub never-seven : (e : Entry) (text : List ℕ) (l : Lent) → AsManyRows text l → (p : ℕ) → reading e text l ≡ refusal 7 p → ⊥

@@ -2,7 +2,7 @@
 -- the tables that a caller has in hand when a call has answered 0.
 -- Assumes nothing.
 use Prim.Native.Nat.{ℕ, _≤_}
-use mathlib.Core.Path.{_≡_, sym, ap, _∙_, subst}
+use mathlib.Core.Path.{_≡_, refl, sym, ap, _∙_, subst}
 use mathlib.Core.Logic.{_↔_}
 use mathlib.Core.List.{List}
 use native.Mathlib.Omega.{arith}
@@ -15,35 +15,47 @@ use Rattle.rules.specs.Meaning.{Mem, SameMeanings}
 use Rattle.rules.specs.Printing.{printedAll}
 use Rattle.rules.specs.View.{itemsOf}
 use Rattle.rules.specs.World.{Tables}
-use Rattle.rules.specs.Answers.{lent, Outcome, accepted, refusal, answerOf, Reads, reading}
+use Rattle.rules.specs.Answers.{Lent, lent, Outcome, accepted, refusal, answerOf, Reads, reading, readReport, refusalReport, reportOf}
+use Rattle.rules.specs.Calls.{AsManyRows, Call, saidBy}
+use Rattle.reading.proofs.Fuel.{never-zero}
 use Rattle.bynames.proofs.Listed.{Lists}
-use Rattle.simulation.proofs.Said.{itemsIn, AsManyRows}
+use Rattle.simulation.proofs.Said.{itemsIn}
 use Rattle.simulation.proofs.Left.{Left, left-say}
 use Rattle.simulation.proofs.Canonical.{canonical}
 use Rattle.simulation.proofs.Listing.{print-lists}
 use Rattle.simulation.proofs.ReadingBack.{ReadsBack, reading-back}
 use Rattle.simulation.proofs.AsManyRows.{never-seven}
 
--- a call that answered 0 with four counts: the text and the tables lent to it, and the tables as it left them
-pub record Call (e : Entry) : Type 0 where
-  pub text : List ℕ
-  pub I : List ℕ
-  pub S : List ℕ
-  pub O : List ℕ
-  pub A : List ℕ
-  pub items : ℕ
-  pub statements : ℕ
-  pub operands : ℕ
-  pub attributes : ℕ
-  pub I′ : List ℕ
-  pub S′ : List ℕ
-  pub O′ : List ℕ
-  pub A′ : List ℕ
-  pub reads : Reads e text I S O A (answer.Read items statements operands attributes) I′ S′ O′ A′
+-- ---- what a report tells: an accepted read is told by 0, and no refusal is
+pub report-read : (i s o a : ℕ) → reportOf (answer.Read i s o a) ≡ readReport i s o a
+unfolding reportOf
+report-read i s o a = refl
 
--- the items that its tables say
-abbrev pub saidBy : {e : Entry} → Call e → List Item
-saidBy c = itemsOf (c .text) (c .I′) (c .S′) (c .O′) (c .A′) (c .items)
+pub report-refused : (n p : ℕ) → reportOf (answer.Refused n p) ≡ refusalReport n p
+unfolding reportOf
+report-refused n p = refl
+
+pub told-read : (e : Entry) (text : List ℕ) (l : Lent) (i s o a : ℕ) → reportOf (answerOf (reading e text l)) ≡ readReport i s o a → answerOf (reading e text l) ≡ answer.Read i s o a
+unfolding answerOf reportOf
+told-read e text l i s o a q = by (reading e text l) refl q
+  where
+    by : (w : Outcome) → reading e text l ≡ w → reportOf (answerOf w) ≡ readReport i s o a → answerOf w ≡ answer.Read i s o a
+    by (accepted t) k z =
+        let i₁ : t .items .count ≡ i = cc in
+        let s₁ : t .statements .count ≡ s = cc in
+        let o₁ : t .operands .count ≡ o = cc in
+        let a₁ : t .attributes .count ≡ a = cc in
+        rw (i₁, s₁, o₁, a₁) refl
+    by (refusal n p) k z =
+        let zero-told : n ≡ 0 = cc in
+        absurd (never-zero e text l p (k ∙ ap (λ (m : ℕ). refusal m p) zero-told))
+
+pub answered : (e : Entry) (text I S O A : List ℕ) {r : Answer} {I′ S′ O′ A′ : List ℕ} {i s o a : ℕ} → Reads e text I S O A r I′ S′ O′ A′ → reportOf r ≡ readReport i s o a → r ≡ answer.Read i s o a
+answered e text I S O A {i = i} {s} {o} {a} h q = h .answers ∙ told-read e text (lent I S O A) i s o a (ap reportOf (sym (h .answers)) ∙ q)
+
+-- what an accepted call ensures
+pub call-reads : {e : Entry} (c : Call e) → Reads e (c .text) (c .I) (c .S) (c .O) (c .A) (answer.Read (c .items) (c .statements) (c .operands) (c .attributes)) (c .I′) (c .S′) (c .O′) (c .A′)
+call-reads {e} c = subst (λ (z : Answer). Reads e (c .text) (c .I) (c .S) (c .O) (c .A) z (c .I′) (c .S′) (c .O′) (c .A′)) (answered e (c .text) (c .I) (c .S) (c .O) (c .A) (c .reads) (c .tells)) (c .reads)
 
 -- what a call on the print of some items answers, and what it leaves says
 pub record Again (xs : List Item) (r : Answer) (I′ S′ O′ A′ : List ℕ) : Type 0 where
@@ -60,7 +72,7 @@ same-tables t u p q = cc
 
 module _ {e : Entry} where
   left : (c : Call e) → Left e (c .text) (c .I) (c .S) (c .O) (c .A) (c .I′) (c .S′) (c .O′) (c .A′) (c .items)
-  left c = left-say e (c .text) (c .I) (c .S) (c .O) (c .A) (c .I′) (c .S′) (c .O′) (c .A′) (c .items) (c .statements) (c .operands) (c .attributes) (c .reads)
+  left c = left-say e (c .text) (c .I) (c .S) (c .O) (c .A) (c .I′) (c .S′) (c .O′) (c .A′) (c .items) (c .statements) (c .operands) (c .attributes) (call-reads c)
 
   -- Two calls of the same entry point leave tables that print to equal bytes exactly when they mean the same.
   pub calls-canonical : (c d : Call e) → (printedAll (saidBy c) ≡ printedAll (saidBy d)) ↔ SameMeanings (saidBy c) (saidBy d)

@@ -12,11 +12,12 @@ use Rattle.rules.specs.Meaning.{SameMeanings}
 use Rattle.rules.specs.Printing.{printedAll}
 use Rattle.rules.specs.World.{Tables}
 use Rattle.rules.specs.Answers.{Lent, accepted, reading}
+use Rattle.rules.specs.Calls.{AsManyRows}
 use Rattle.bynames.proofs.Ascii.{printed-checked}
 use Rattle.bynames.proofs.AcceptedItems.{accepted-readable}
 use Rattle.bynames.proofs.Reader as names
 use Rattle.bynames.proofs.ReadingBack as by-names
-use Rattle.simulation.proofs.Said.{itemsIn, AsManyRows}
+use Rattle.simulation.proofs.Said.{itemsIn}
 use Rattle.simulation.proofs.Items.{entryOf}
 use Rattle.simulation.proofs.Whole.{accepted-by-names, accepted-by-rows}
 

@@ -20,8 +20,9 @@ use Rattle.rules.specs.Listing.{assigns, has}
 use Rattle.rules.specs.World.{World, Stand, Tables, P, go, stop, bind, asks}
 use Rattle.rules.specs.Reading as rows
 use Rattle.rules.specs.Reading.{letters, findRow}
+use Rattle.rules.specs.Grammar.{sideIn, sideOf}
 use Rattle.laws.proofs.Same.{same-true}
-use Rattle.bynames.proofs.WellFormed.{sideIn, sideOf, isBlock, blockSize}
+use Rattle.bynames.proofs.WellFormed.{isBlock, blockSize}
 use Rattle.bynames.proofs.Reader as names
 use Rattle.bynames.proofs.Reader.{State}
 use Rattle.simulation.proofs.Stable.{Later, name-stays, statementIn, Says, says-later}

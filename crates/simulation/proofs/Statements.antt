@@ -19,13 +19,14 @@ use Rattle.rules.specs.View.{typingOf, asAttribute, attributeOf, asStatement, s
 use Rattle.rules.specs.World.{World, Stand, Tables, Res, P, go, bind, asks, claimStatement, many}
 use Rattle.rules.specs.Reading as rows
 use Rattle.rules.specs.Reading.{letters}
+use Rattle.rules.specs.Grammar.{sideIn}
 use Rattle.laws.proofs.Cases.{by-cases}
 use Rattle.laws.proofs.Tests.{and-left, and-right}
 use Rattle.tables.proofs.Fields.{statement-last}
 use Rattle.reading.proofs.Parts.{conditionRow}
 use Rattle.reading.proofs.Claims.{statementAhead-keeps, statement-claims}
 use Rattle.reading.proofs.Many.{many-turn}
-use Rattle.bynames.proofs.WellFormed.{sideIn, isBlock, blockSize}
+use Rattle.bynames.proofs.WellFormed.{isBlock, blockSize}
 use Rattle.bynames.proofs.Moves.{Within, Takes, token-some}
 use Rattle.bynames.proofs.MovesRules.{assigned-takes, condition-takes, block-condition-takes}
 use Rattle.bynames.proofs.Reader as names

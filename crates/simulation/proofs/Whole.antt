@@ -16,13 +16,14 @@ use Rattle.rules.specs.View.{each, itemsOf}
 use Rattle.rules.specs.World.{World, Tables, Res, go}
 use Rattle.rules.specs.Reading as rows
 use Rattle.rules.specs.Answers.{Lent, start, accepted, refusal, outcome, faultNumber, readChecked, reading}
+use Rattle.rules.specs.Calls.{AsManyRows}
 use Rattle.laws.proofs.Cases.{by-cases}
 use Rattle.reading.proofs.Progress.{never-seven}
 use Rattle.bynames.proofs.Reader as names
 use Rattle.bynames.proofs.Reader.{State}
 use Rattle.simulation.proofs.Stable.{Sized, Later, later-same, itemIn}
 use Rattle.simulation.proofs.Together.{Both, goes, full, halts}
-use Rattle.simulation.proofs.Said.{itemsIn, AsManyRows}
+use Rattle.simulation.proofs.Said.{itemsIn}
 use Rattle.simulation.proofs.Items.{entryOf}
 use Rattle.simulation.proofs.Lists.{ItemedAll, itemed-all, simulated}
 

@@ -8,15 +8,14 @@ use native.Mathlib.Omega.{arith}
 use borrow.Author.Tests.{eqb-true, eqb-false, ne-eqb}
 use lib.Dec.{eqb}
 use lib.ListN.{length, getD}
-use Rattle.rules.specs.Bytes.{same, count}
+use Rattle.rules.specs.Bytes.{same, count, bit}
 use Rattle.rules.specs.Tokens as kind
 use Rattle.rules.specs.Instructions.{keywords, keywordOf}
-use Rattle.rules.specs.Reading.{keywordAt, letters, bit, allBits}
+use Rattle.rules.specs.Reading.{keywordAt, letters, allBits}
 use Rattle.rules.specs.declared.Spot.{Spot}
 use Rattle.laws.proofs.Cases.{by-cases, eqb-iff}
 use Rattle.laws.proofs.Same.{eq-same, ne-same}
 use Rattle.laws.proofs.Names.{keyword-place, keyword-named}
-use Rattle.bynames.proofs.WellFormed.{bitByte}
 
 -- the keyword at a place
 abbrev pub keywordLetters : ℕ → List ℕ
@@ -47,11 +46,10 @@ module _ (k : ℕ) (h : k < 19) where
   keyword-not text t e = keyword-seen text t ∙ ap (λ (b : Bool). b && same (letters text t) (keywordLetters k)) e
 
 -- a pattern of demandedBits, told in two ways
-pub all-bits : (l : List ℕ) → allBits l ≡ eqb (count bitByte l) (length l)
-unfolding bitByte
+pub all-bits : (l : List ℕ) → allBits l ≡ eqb (count bit l) (length l)
 all-bits [] = refl
 all-bits (b ∷ l) = by (bit b) (all-bits l)
   where
-    by : (t : Bool) → allBits l ≡ eqb (count bitByte l) (length l) → (t && allBits l) ≡ eqb (cond t (suc (count bitByte l)) 0) (suc (length l))
-    by true e = e ∙ eqb-iff (count bitByte l) (length l) (suc (count bitByte l)) (suc (length l)) (λ q. ap suc q) (λ q. omega arith)
+    by : (t : Bool) → allBits l ≡ eqb (count bit l) (length l) → (t && allBits l) ≡ eqb (cond t (suc (count bit l)) 0) (suc (length l))
+    by true e = e ∙ eqb-iff (count bit l) (length l) (suc (count bit l)) (suc (length l)) (λ q. ap suc q) (λ q. omega arith)
     by false e = sym (ne-eqb 0 (suc (length l)) (omega arith))

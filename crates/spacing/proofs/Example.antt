@@ -8,7 +8,8 @@ use Rattle.rules.specs.Bytes.{bytes, same}
 use Rattle.rules.specs.Utf8 as U
 use Rattle.rules.specs.Space as S
 use Rattle.rules.specs.Tokens as T
-use Rattle.spacing.proofs.TokenList.{Word, token, end, fault, wordOf, next, wordsFrom, tokensOf}
+use Rattle.rules.specs.Tokens.{next}
+use Rattle.spacing.specs.TokenList.{Word, token, end, fault, wordOf, wordsFrom, tokensOf}
 
 abbrev texts : List (List ℕ)
 texts =

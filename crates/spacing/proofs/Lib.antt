@@ -1,6 +1,5 @@
 -- Spacing is nothing: two texts of the same tokens are read alike. The theorem is SpacingIsNothing, and Calls tells it of the public read calls.
--- TokenList has the words that they are stated in. All else leads to them.
-pub mod TokenList
+-- specs/ has the words that they are stated in. All else leads to them.
 pub mod Sequence
 -- Rows that are the same but for places, and what they say.
 pub mod Lined

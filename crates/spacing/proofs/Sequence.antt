@@ -8,9 +8,9 @@ use lib.ListN.{length, getD}
 use Rattle.rules.specs.declared.Token.{Token}
 use Rattle.rules.specs.declared.Lexed.{Lexed}
 use Rattle.rules.specs.declared.Lexed.the-variants.{Found, End, Refused}
-use Rattle.rules.specs.Tokens.{tokenAt}
+use Rattle.rules.specs.Tokens.{tokenAt, next, onward, nth}
 use Rattle.laws.proofs.Tokens.{Lies, token-lies}
-use Rattle.spacing.proofs.TokenList.{Word, token, end, fault, wordOf, next, wordsFrom, tokensOf, onward, nth}
+use Rattle.spacing.specs.TokenList.{Word, token, end, fault, wordOf, wordsFrom, tokensOf}
 
 -- two texts whose tokens are the same, one by one
 abbrev pub Alike : List ℕ → List ℕ → Type 0

@@ -19,8 +19,9 @@ use Rattle.rules.specs.Printing.{printedAll}
 use Rattle.rules.specs.World.{Tables, World, Res}
 use Rattle.rules.specs.Reading as R
 use Rattle.rules.specs.Answers.{Lent, start, faultNumber, Outcome, accepted, refusal, outcome, readChecked, reading}
+use Rattle.rules.specs.Tokens.{nth}
 use Rattle.simulation.proofs.Said.{itemsIn}
-use Rattle.spacing.proofs.TokenList.{nth, tokensOf}
+use Rattle.spacing.specs.TokenList.{tokensOf}
 use Rattle.spacing.proofs.Sequence.{alike}
 use Rattle.spacing.proofs.Twins.{tokenOf, Worlds, worlds, Both, goes, stops, faults, ends, Equal}
 use Rattle.spacing.proofs.Views.{items-same}

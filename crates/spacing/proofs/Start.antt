@@ -10,13 +10,12 @@ use Rattle.rules.specs.declared.Entry.{Entry}
 use Rattle.rules.specs.declared.Lexed.{Lexed}
 use Rattle.rules.specs.declared.Lexed.the-variants.{End}
 use Rattle.rules.specs.Rows.{itemLength, statementLength, operandLength, attributeLength, capacity}
-use Rattle.rules.specs.Tokens.{tokenAt}
+use Rattle.rules.specs.Tokens.{tokenAt, onward}
 use Rattle.rules.specs.World.{World, Res, go, bind, give, _>>_}
 use Rattle.rules.specs.Reading as R
 use Rattle.rules.specs.Answers.{Lent, start, empty}
 use Rattle.reading.proofs.Claims.{itemAhead-keeps, itemOf-claims}
 use Rattle.reading.proofs.Many.{many-turn}
-use Rattle.spacing.proofs.TokenList.{onward}
 use Rattle.spacing.proofs.Sequence.{Alike}
 use Rattle.spacing.proofs.Lined.{none}
 use Rattle.spacing.proofs.Twins.{Looked, Both, Equal, both-bind, next-same, test, gives, Lexes, tokens, both-end, both-refused, lexes, seen-token, seen-refused}

@@ -18,10 +18,10 @@ use Rattle.rules.specs.declared.Operand.{Operand}
 use Rattle.rules.specs.declared.Attribute.{Attribute}
 use Rattle.rules.specs.Faults as fault
 use Rattle.rules.specs.Rows.{statementWords, attributeWords}
-use Rattle.rules.specs.Tokens.{tokenAt}
+use Rattle.rules.specs.Tokens.{tokenAt, nth}
 use Rattle.rules.specs.World.{Table, Tables, World, Res, go, stop, P, bind, _>>=_, _>>_, give, refuse, asks, scoped, claimItem, claimStatement, claimOperand, claimAttribute, repeated, many}
 use Rattle.rules.specs.Reading as R
-use Rattle.spacing.proofs.TokenList.{wordOf, nth}
+use Rattle.spacing.specs.TokenList.{wordOf}
 use Rattle.spacing.proofs.Sequence.{sort, kindOf, lettersIn, Alike, nth-kind, nth-next}
 use Rattle.spacing.proofs.Lined.{Statements, Attributes, Lined, lined-more}
 

@@ -3,9 +3,8 @@ use rules::Span;
 use tables::letters;
 use tables::rows::name_at;
 ghost use mathlib.Core.Path.{_≡_};
-ghost use Rattle.rules.specs.Bytes.{count, patternByte, same as sameBytes};
+ghost use Rattle.rules.specs.Bytes.{bit, count, patternByte, same as sameBytes};
 ghost use Rattle.rules.specs.Rows.{nameAt};
-ghost use Rattle.rules.specs.Reading.{bit};
 ghost use Rattle.rules.specs.WellFormed.{isName, nameIn, patternIn, noSpan, newName};
 
 // Whether s is '%' and one or more name bytes.

@@ -4,6 +4,7 @@ use mathlib.Core.Path.{_≡_, sym, _∙_}
 use Prim.Native.Nat.{_-_, _≤_}
 use lib.ListN.{length, getD, drop}
 use borrow.Author.Needs.{needs}
+use Rattle.rules.specs.Bytes.{bit}
 use Rattle.rules.specs.Reading as R
 use Rattle.laws.proofs.Tests.{tests, and-true, and-false}
 use Rattle.reader.proofs.AttributeRows.{bits-more, bits-end}
@@ -29,7 +30,7 @@ returns : tie.Need-returns Inv-loop μ-loop
 returns c =
     let l = c .before .before .before .before in
     let s = l .before .before .args .s .now in
-    sym (l .loop .inv .1 ∙ bits-more s (l .loop .i) (search needs) ∙ and-false (R.bit (getD s (l .loop .i) 0)) _ (search tests))
+    sym (l .loop .inv .1 ∙ bits-more s (l .loop .i) (search needs) ∙ and-false (bit (getD s (l .loop .i) 0)) _ (search tests))
 
 add-i : tie.Need-add-i Inv-loop μ-loop
 add-i c = search needs
@@ -41,7 +42,7 @@ loop-again : tie.Need-loop-again Inv-loop μ-loop
 loop-again c =
     let l = c .before .before .before .before in
     let s = l .before .before .args .s .now in
-    (search needs, l .loop .inv .1 ∙ bits-more s (l .loop .i) (search needs) ∙ and-true (R.bit (getD s (l .loop .i) 0)) _ (search tests))
+    (search needs, l .loop .inv .1 ∙ bits-more s (l .loop .i) (search needs) ∙ and-true (bit (getD s (l .loop .i) 0)) _ (search tests))
 
 returns-2 : tie.Need-returns-2 Inv-loop μ-loop
 returns-2 c =

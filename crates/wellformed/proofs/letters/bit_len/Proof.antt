@@ -5,8 +5,7 @@ use Prim.Native.Nat.{_≤_, _+_, _-_}
 use native.Mathlib.Omega.{arith}
 use lib.ListN.{length, drop}
 use borrow.Author.Needs.{needs}
-use Rattle.rules.specs.Reading.{bit}
-use Rattle.rules.specs.Bytes.{count}
+use Rattle.rules.specs.Bytes.{count, bit}
 use Rattle.laws.proofs.Tests.{said}
 use Rattle.laws.proofs.Runs.{count-more, count-stop, count-end}
 use Rattle.wellformed.proofs.letters.bit_len.Statement.{statement}

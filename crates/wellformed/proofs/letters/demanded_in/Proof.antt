@@ -3,8 +3,8 @@
 use mathlib.Core.Path.{ap, _∙_}
 use borrow.Author.Tests.{le-leb, lt-leb}
 use borrow.Author.Needs.{needs}
-use Rattle.rules.specs.Reading.{bit}
 use Rattle.rules.specs.WellFormed.{patternIn, isPattern}
+use Rattle.rules.specs.Bytes.{bit}
 use Rattle.wellformed.proofs.Clauses.{stops, goes}
 use Rattle.wellformed.proofs.letters.demanded_in.Statement.{statement}
 use Rattle.wellformed.proofs.letters.demanded_in.Tie as tie

@@ -3,26 +3,26 @@
 -- Nothing here looks ahead, and nothing is said of an order in which a text is read.
 -- Assumes nothing.
 use mathlib.Core.Path.{_≡_}
-use mathlib.Core.Bool.{true, false}
+use mathlib.Core.Bool.{true, false, cond}
 use mathlib.Core.List.{List, [], _∷_, _++_}
 use Prim.Native.Nat.{ℕ, _≤_, _<_}
 use Prim.Native.String.{String}
 use lib.ListN.{length, drop}
 use Rattle.rules.specs.declared.Checked.the-variants.{WellFormed}
 use Rattle.rules.specs.declared.Entry.{Entry}
 use Rattle.rules.specs.declared.Entry.the-variants.{Replacements, LeftHandSides, RightHandSides}
 use Rattle.rules.specs.declared.Lexed.the-variants.{Found, End}
 use Rattle.rules.specs.declared.Token as located
-use Rattle.rules.specs.Bytes.{bytes, part}
+use Rattle.rules.specs.Bytes.{bytes, part, bit}
 use Rattle.rules.specs.Utf8.{checked}
 use Rattle.rules.specs.Tokens as T
 use Rattle.rules.specs.Tokens.{tokenAt}
 use Rattle.rules.specs.Integers.{number, fits, integer, typeWidth}
 use Rattle.rules.specs.Instructions.{arityOf, instructionName}
 use Rattle.rules.specs.Syntax as syntax
 use Rattle.rules.specs.Syntax.{Name, onto}
-use Rattle.rules.specs.Listing.{has}
-use Rattle.bynames.proofs.WellFormed.{Each, bitByte, sideOf}
+use Rattle.rules.specs.Listing.{assigns, has}
+use Rattle.rules.specs.Meaning.{Each}
 
 -- ---- tokens
 -- a token without its place: its letters where they say something, and the pattern alone of knownBits
@@ -77,9 +77,19 @@ pub data Lexes (text : List ℕ) : ℕ → List Token → Type 0 where
   at-token : {at : ℕ} {t : located.Token} {x : Token} {l : List Token}
       → tokenAt text at ≡ Found t → Written x (t .kind) (part text (t .first) (t .past)) → Lexes text (t .past) l → Lexes text at (x ∷ l)
 
--- ---- scope: the statements of the item so far, the newest first. A name is in it where `has` says so, and `sideOf` is what stands right of its '='
+-- ---- scope: the statements of the item so far, the newest first. A name is in it where `has` says so
 abbrev pub Scope : Type 0
 Scope = List syntax.Statement
+
+-- what stands right of a statement's '='; of the newest that assigns a name. Where there is none it is as if it were var, which is no block
+abbrev pub sideIn : syntax.Statement → syntax.RightSide
+sideIn (syntax.assignment a) = a .side
+sideIn (syntax.pc x y) = syntax.var
+sideIn (syntax.blockpc b k x y) = syntax.var
+
+abbrev pub sideOf : Name → Scope → syntax.RightSide
+sideOf n [] = syntax.var
+sideOf n (s ∷ t) = cond (assigns n s) (sideIn s) (sideOf n t)
 
 -- ---- operands
 -- a type, if there is one: ':' and the word of a type
@@ -121,7 +131,7 @@ pub data AttributeInner : List Token → syntax.Attribute → Type 0 where
 
 -- and between a root attribute's: demandedBits, '=' and an integer whose letters are all 0 or 1; or a word
 pub data RootAttributeInner : List Token → syntax.RootAttribute → Type 0 where
-  demanded-bits : {w : List ℕ} → Each bitByte w → RootAttributeInner (word "demandedBits" ∷ equals ∷ int w ∷ []) (syntax.demandedBits w)
+  demanded-bits : {w : List ℕ} → Each bit w → RootAttributeInner (word "demandedBits" ∷ equals ∷ int w ∷ []) (syntax.demandedBits w)
   harvested-from-use : RootAttributeInner (word "harvestedFromUse" ∷ []) syntax.harvestedFromUse
 
 -- attributes of either sort, each in '(' and ')'

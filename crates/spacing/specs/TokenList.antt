@@ -1,4 +1,4 @@
--- The tokens of a text as a list, by their kinds and letters alone: no place, no white space, no comment. And the same tokens one by one, with their places.
+-- The tokens of a text as a list, by their kinds and letters alone: no place, no white space, no comment.
 -- Assumes nothing.
 use Prim.Native.Nat.{ℕ, zero, suc}
 use mathlib.Core.List.{List, [], _∷_}
@@ -6,7 +6,7 @@ use lib.ListN.{length}
 use Rattle.rules.specs.declared.Lexed.{Lexed}
 use Rattle.rules.specs.declared.Lexed.the-variants.{Found, End, Refused}
 use Rattle.rules.specs.Bytes.{part}
-use Rattle.rules.specs.Tokens.{tokenAt}
+use Rattle.rules.specs.Tokens.{tokenAt, next}
 
 -- what a token is whatever stands around it: its kind and its letters; or the end of the text, or what is no token
 pub data Word : Type 0 where
@@ -19,12 +19,6 @@ wordOf text (Found t) = token (t .kind) (part text (t .first) (t .past))
 wordOf text End = end
 wordOf text (Refused p) = fault
 
--- what comes behind a token; behind the end, or behind what is no token, nothing else comes
-unfoldable pub next : List ℕ → Lexed → Lexed
-next text (Found t) = tokenAt text (t .past)
-next text End = End
-next text (Refused p) = Refused p
-
 -- the words from one on, at most so many: the last is the end of the text, or what is no token
 unfoldable pub wordsFrom : ℕ → List ℕ → Lexed → List Word
 wordsFrom zero text l = []
@@ -35,11 +29,3 @@ wordsFrom (suc n) text (Refused p) = wordOf text (Refused p) ∷ []
 -- the tokens of a text: each has a byte or more, so one word more than the text has bytes is enough
 abbrev pub tokensOf : List ℕ → List Word
 tokensOf text = wordsFrom (suc (length text)) text (tokenAt text 0)
-
--- the i-th from one on, and the i-th of a text, counted from 0
-unfoldable pub onward : List ℕ → Lexed → ℕ → Lexed
-onward text l zero = l
-onward text l (suc i) = next text (onward text l i)
-
-abbrev pub nth : List ℕ → ℕ → Lexed
-nth text i = onward text (tokenAt text 0) i
