@@ -2,6 +2,7 @@
 # Tries wrong definitions: each .ci/wrong-definitions/*.edit changes a definition of one crate, and the theorems of another must then be refused.
 # An edit has the lines of a must-fail edit ('file:', then pairs of 'old:' and 'new:'), and before them 'crate: NAME', whose definition is changed,
 # and 'breaks: NAME', whose theorems fail. What stands between the two must still be proved. The last line tells how many were refused; the status is 0 where all were.
+# With arguments only those edits are tried, by their labels. Up to RT_JOBS are tried at a time, by default as many as the machine has processors.
 set -u
 cd "$(dirname "$0")/.." || exit 2
 root=$PWD
@@ -43,12 +44,11 @@ apply() { # EDIT FOLDER
     done <"$1"
 }
 
-refused=0 failed=0
-for edit in .ci/wrong-definitions/*.edit; do
-    label=$(basename "$edit" .edit)
+# Tries an edit, and leaves what is to be said of it in the file 'said' of its folder: a line that begins with 'refused' where it is refused.
+try() { # LABEL
+    local edit=.ci/wrong-definitions/$1.edit here=$place/$1 changed broken crates c
     changed=$(sed -n 's/^crate: //p' "$edit")
     broken=$(sed -n 's/^breaks: //p' "$edit")
-    here=$place/$label
     rm -rf "$here"
     mkdir -p "$here/crates"
     crates=$(below "$broken")
@@ -57,24 +57,41 @@ for edit in .ci/wrong-definitions/*.edit; do
         rm -rf "$here/crates/$c/must-fail"
         grep "^$c:" crates.txt >>"$here/crates.txt"
     done
-    if ! apply "$edit" "$here/crates/$changed"; then
-        echo "wrong definition $label: BAD EDIT"
-        failed=$((failed + 1))
-        continue
-    fi
-    (cd "$here" && rt check) >"$here/log" 2>&1
-    kept=yes
+    echo 'BAD EDIT' >"$here/said"
+    apply "$edit" "$here/crates/$changed" || return
+    echo "NOT REFUSED by $broken" >"$here/said"
+    (cd "$here" && RT_JOBS=1 rt check) >"$here/log" 2>&1
     for c in $crates; do
-        [ "$c" = "$broken" ] || grep -q "^rt: $c proved" "$here/log" || kept=no
+        [ "$c" = "$broken" ] || grep -q "^rt: $c proved" "$here/log" || return
     done
-    if [ $kept = yes ] && ! grep -q "^rt: $broken proved" "$here/log" && grep -q '^logic=not-proved' "$here/log"; then
-        first=$(grep -m 1 -o "crates/$broken/[^ ]*: error" "$here/log" | sed 's/: error$//')
-        echo "wrong definition $label: refused, as it must be (first at $first)"
-        refused=$((refused + 1))
-    else
-        echo "wrong definition $label: NOT REFUSED by $broken"
-        failed=$((failed + 1))
-    fi
+    grep -q "^rt: $broken proved" "$here/log" && return
+    grep -q '^logic=not-proved' "$here/log" || return
+    echo "refused, as it must be (first at $(grep -m 1 -o "crates/$broken/[^ ]*: error" "$here/log" | sed 's/: error$//'))" >"$here/said"
+}
+
+# All edits by their labels, those first for which most crates are proved.
+all() {
+    local edit
+    for edit in .ci/wrong-definitions/*.edit; do
+        echo "$(below "$(sed -n 's/^breaks: //p' "$edit")" | wc -l) $(basename "$edit" .edit)"
+    done | sort -rn | sed 's/.* //'
+}
+
+[ $# -gt 0 ] || set -- $(all)
+for label in "$@"; do
+    while [ "$(jobs -rp | wc -l)" -ge "${RT_JOBS:-$(nproc)}" ]; do wait -n; done
+    try "$label" &
+done
+wait
+
+refused=0 failed=0
+for label in "$@"; do
+    said=$(cat "$place/$label/said")
+    echo "wrong definition $label: $said"
+    case $said in
+    refused*) refused=$((refused + 1)) ;;
+    *) failed=$((failed + 1)) ;;
+    esac
 done
 echo "$refused wrong definitions refused, $failed not"
 [ $failed -eq 0 ]

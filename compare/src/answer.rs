@@ -18,7 +18,7 @@ pub type Rows = [u64; 4];
 /// Rows enough for any text.
 pub const ENOUGH: Rows = [LONGEST as u64; 4];
 
-/// The refusals of a reading, by their numbers in document 01.
+/// The refusals of a reading, by their numbers.
 pub const ACCEPTED: u64 = 0;
 pub const TOO_LONG: u64 = 1;
 pub const NOT_UTF8: u64 = 2;
@@ -47,7 +47,7 @@ pub enum Entry {
 pub const ENTRIES: [Entry; 3] = [Entry::Replacements, Entry::LeftHandSides, Entry::RightHandSides];
 
 impl Entry {
-    /// Document 01's letter for this entry point.
+    /// The settled examples' letter for this entry point.
     pub fn letter(self) -> char {
         match self {
             Entry::Replacements => 'R',

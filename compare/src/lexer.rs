@@ -1,4 +1,4 @@
-//! Document 01's text checks and lexer, written from its words and not from the crate.
+//! The text checks and the lexer of docs/RULES.md, section 1, written from the rules' words and not from the crate.
 
 #[derive(Clone, Copy, Debug, PartialEq, Eq)]
 pub enum Kind {

@@ -1,4 +1,4 @@
-//! Compares three readers and printers of Souper IR: the crate souper-ir, a model written from document 01, and the proved
+//! Compares three readers and printers of Souper IR: the crate souper-ir, a model written from the rules, and the proved
 //! library where it is linked.
 pub mod answer;
 pub mod counting;

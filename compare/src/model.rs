@@ -1,4 +1,4 @@
-//! Document 01's reading of a text: its answer at any capacities, its claims, its items.
+//! The rules' reading of a text: its answer at any capacities, its claims, its items.
 //!
 //! A claim past capacity stops a reading and changes nothing before it, so one reading with rows enough, that remembers
 //! its claims in order, answers for every capacity.

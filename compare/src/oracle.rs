@@ -1,4 +1,4 @@
-//! What the crate says of a text, in document 01's numbers.
+//! What the crate says of a text, in the numbers of docs/RULES.md, section 4.
 //!
 //! The crate has one error type. Its messages tell a lexer's fault from a parser's, an integer's and a name's; a message
 //! that is not known here answers `UNKNOWN_MESSAGE`, which no reading may answer.
@@ -129,7 +129,7 @@ fn number_of_message(message: &str) -> u64 {
     whole.or(begun).map_or(UNKNOWN_MESSAGE, |known| known.1)
 }
 
-/// An item of a list: it is printed, and counts the rows that document 01 gives it.
+/// An item of a list: it is printed, and counts the rows that the rules give it.
 pub trait Item: Parse + Display {
     /// What the list's print has behind an item, beside what the crate prints.
     const LINE_END: &'static str;

@@ -1,4 +1,4 @@
-//! Document 01's print of a list, written from its words and not from the crate.
+//! The print of a list by docs/RULES.md, section 8, written from the rules' words and not from the crate.
 use crate::model::{Attribute, Closing, Infer, Item, Operand, Statement, Value};
 use std::collections::{HashMap, HashSet};
 

@@ -1,4 +1,4 @@
-//! Document 01's parser, written from its words and not from the crate: one function for each rule of the grammar.
+//! The parser of docs/RULES.md, sections 2 to 5, written from the rules' words and not from the crate: one function for each rule of the grammar.
 use crate::answer::*;
 use crate::lexer::{first_bad_sequence, next_token, Kind, Lexed, Token};
 use crate::model::{Attribute, Closing, Infer, Item, Operand, Statement, Value};

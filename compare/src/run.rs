@@ -56,8 +56,10 @@ fn settled_texts(tally: &mut Tally) {
         tally.compare(text.as_bytes());
         every_cut(text.as_bytes(), tally);
     }
-    tally.compare(settled::WHOLE.as_bytes());
-    every_cut(settled::WHOLE.as_bytes(), tally);
+    for text in [settled::WHOLE, settled::ORDERED] {
+        tally.compare(text.as_bytes());
+        every_cut(text.as_bytes(), tally);
+    }
 }
 
 /// Texts of about the longest length that is read, plain and at its worst.

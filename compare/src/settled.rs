@@ -1,7 +1,8 @@
-//! Document 01's settled examples, and the readings that careless hands get wrong.
+//! The settled examples of docs/RULES.md, section 9, and the readings that careless hands get wrong.
 use crate::answer::Entry::{self, LeftHandSides as L, Replacements as R, RightHandSides as T};
+use crate::answer::Rows;
 
-/// Document 01's table: entry, text, number and place.
+/// The table of answers: entry, text, number and place.
 pub const EXAMPLES: [(Entry, &str, u64, u64); 16] = [
     (R, "", 0, 0),
     (R, "%0 = add %0, 1", 6, 9),
@@ -21,9 +22,36 @@ pub const EXAMPLES: [(Entry, &str, u64, u64); 16] = [
     (R, "cand -170141183460469231731687303715884105728 0", 0, 0),
 ];
 
-/// Document 01's whole print.
+/// The whole print.
 pub const WHOLE: &str = "%1=var %0 = var pc %0 1 %2:i08=add %1, -0 cand %2 007";
 pub const WHOLE_PRINT: &str = "%1 = var\n%2:i8 = add %1, 0\ncand %2 7\n";
+
+/// The print in order: attributes of both sorts, a `phi` with its block, statements on both sides of `infer`, and operands
+/// whose order decides which line stands first.
+pub const ORDERED: &str = "%b=block 2 %x:i08=var (nonZero)(knownBits=0x1) %y=var %p:i8=phi %b,%y,%x (range=[-1,4)) \
+    %s:i8=sub %p,%y (signBits=03) infer %s (demandedBits=01) %u=var %r=shl %x,%u (hasExternalUses) result %r";
+pub const ORDERED_PRINT: &str = "\
+    %b = block 2\n\
+    %y = var\n\
+    %x:i8 = var (nonZero) (knownBits=0x1)\n\
+    %p:i8 = phi %b, %y, %x (range=[-1,4))\n\
+    %s:i8 = sub %p, %y (signBits=3)\n\
+    infer %s (demandedBits=01)\n\
+    %u = var\n\
+    %r = shl %x, %u (hasExternalUses)\n\
+    result %r\n";
+
+/// The first claim past capacity: entry, text, rows lent, and the place of the 7. A statement's claim is after a further look; a
+/// value's at once; a constant's after the look for `:`; an attribute's at its last `)`; an item's after a further look behind
+/// `infer`, at once behind `result`.
+pub const CLAIMS: [(Entry, &str, Rows, u64); 6] = [
+    (R, WHOLE, [100, 3, 100, 100], 42),
+    (R, WHOLE, [100, 100, 0, 100], 19),
+    (R, WHOLE, [100, 100, 1, 100], 24),
+    (R, ORDERED, [100, 100, 100, 2], 86),
+    (L, "%a=var infer %a %b=var infer %b", [0, 100, 100, 100], 16),
+    (T, "result 1:i8 result 2", [0, 100, 100, 100], 9),
+];
 
 /// Readings that are easy to get wrong: lazy lexing, the two ends of text, looks that move the last token found, integers
 /// at the limits of each field, patterns, scope, blocks and attributes.

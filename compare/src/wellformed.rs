@@ -1,4 +1,4 @@
-//! Which tables are well formed: document 01's sentence, written from its words and docs/LAYOUT.md alone.
+//! Which tables are well formed: docs/RULES.md, section 6, written from the rules' words and docs/LAYOUT.md alone.
 //!
 //! Items are walked in reading order with the next row of each table at hand: each span has to begin there, and in the end
 //! every counted row has been owned. A row is looked at only once it is known to be counted.

@@ -1,4 +1,4 @@
-//! The judge of prints and names passes a printer that does as document 01 says, and fails each of some that slip.
+//! The judge of prints and names passes a printer that does as the rules say, and fails each of some that slip.
 use compare::answer::*;
 use compare::judge::{Calls, Case, Name, Print};
 use compare::library::Report;

@@ -1,4 +1,4 @@
-//! Document 01's settled examples, by the crate and by the model.
+//! The settled examples, by the crate and by the model.
 use compare::answer::*;
 use compare::{memory::Memory, model, oracle, printing, run, settled};
 
@@ -15,16 +15,27 @@ fn examples_and_traps_are_answered_by_crate_and_model() {
 }
 
 #[test]
-fn the_whole_print() {
-    let said = oracle::read(Entry::Replacements, settled::WHOLE.as_bytes());
-    assert_eq!(said.answer, Answer::accepted([1, 4, 6, 0]));
-    assert_eq!(said.print, settled::WHOLE_PRINT);
-    let reading = model::read(Entry::Replacements, settled::WHOLE.as_bytes());
-    assert_eq!(reading.answer(ENOUGH), said.answer);
-    assert_eq!(reading.answer([9, 3, 9, 9]), Answer::refused(NO_ROW, 42));
-    assert_eq!(printing::print(&reading.items), said.print.as_bytes());
-    let whole = settled::WHOLE.as_bytes();
-    assert_eq!(run::difference(Entry::Replacements, whole, &reading, &mut Memory::new()), None);
+fn the_whole_prints() {
+    let ordered = (settled::ORDERED, [1, 7, 7, 6], settled::ORDERED_PRINT);
+    for (text, counts, print) in [(settled::WHOLE, [1, 4, 6, 0], settled::WHOLE_PRINT), ordered] {
+        let said = oracle::read(Entry::Replacements, text.as_bytes());
+        assert_eq!(said.answer, Answer::accepted(counts));
+        assert_eq!(said.print, print);
+        let reading = model::read(Entry::Replacements, text.as_bytes());
+        assert_eq!(reading.answer(ENOUGH), said.answer);
+        assert_eq!(printing::print(&reading.items), said.print.as_bytes());
+        assert_eq!(run::difference(Entry::Replacements, text.as_bytes(), &reading, &mut Memory::new()), None);
+    }
+}
+
+#[test]
+fn the_first_claim_past_capacity_is_seven() {
+    for (entry, text, rows, place) in settled::CLAIMS {
+        let reading = model::read(entry, text.as_bytes());
+        assert_eq!(reading.answer(ENOUGH).number, ACCEPTED, "{}", text);
+        assert_eq!(reading.answer(rows), Answer::refused(NO_ROW, place as usize), "{}", text);
+        assert_eq!(run::difference(entry, text.as_bytes(), &reading, &mut Memory::new()), None, "{}", text);
+    }
 }
 
 #[test]
@@ -79,7 +90,7 @@ fn claims(entry: Entry, text: &str) -> Vec<String> {
 }
 
 #[test]
-fn rows_are_claimed_when_document_01_says() {
+fn rows_are_claimed_when_the_rules_say() {
     // a constant after the look for `:`, a value at once, an attribute at its last `)`, a statement after a further look
     let text = "%a:i8 = add 1, 2:i16 (range=[3,4)) pc %a 5 infer %a (harvestedFromUse) %b = zext %a result %b";
     let expected =

@@ -1,4 +1,4 @@
--- Document 01's starred examples: one table, and one statement about it, by computation.
+-- The settled examples of docs/RULES.md, section 9: one table, and one statement about it, by computation.
 -- Assumes nothing.
 use mathlib.Core.Path.{_≡_, refl}
 use mathlib.Core.List.{List, [], _∷_, _++_}
@@ -56,6 +56,20 @@ refused e t n p = record { entry = e; text = t; lent = many; answer = Refused n 
 abbrev accepted : Entry → String → Answer → List String → Example
 accepted e t a l = record { entry = e; text = t; lent = many; answer = a; print = l }
 
+-- with too few rows
+abbrev short : Entry → String → Lent → ℕ → Example
+short e t l p = record { entry = e; text = t; lent = l; answer = Refused 7 p; print = [] }
+
+-- the whole print
+abbrev whole : String
+whole = "%1=var %0 = var pc %0 1 %2:i08=add %1, -0 cand %2 007"
+
+-- the print in order: attributes of both sorts, a phi with its block, statements on both sides of infer, and operands whose order decides which line stands first
+abbrev ordered : String
+ordered = "%b=block 2 %x:i08=var (nonZero)(knownBits=0x1) %y=var %p:i8=phi %b,%y,%x (range=[-1,4)) %s:i8=sub %p,%y (signBits=03) infer %s (demandedBits=01) %u=var %r=shl %x,%u (hasExternalUses) result %r"
+
+-- A statement is claimed after a further look; a value at once; a constant after the look for ':'; an attribute at its last ')'; an item
+-- after a further look behind infer, at once behind result.
 abbrev pub examples : List Example
 examples =
     accepted R "" (Read 0 0 0 0) [] ∷
@@ -71,14 +85,23 @@ examples =
     refused R "pc 1 2" 4 5 ∷
     refused T "result 1 result %x" 6 16 ∷
     refused R "%b = block 2 %p = phi %b, 1" 4 26 ∷
-    accepted R "%1=var %0 = var pc %0 1 %2:i08=add %1, -0 cand %2 007" (Read 1 4 6 0) ("%1 = var" ∷ "%2:i8 = add %1, 0" ∷ "cand %2 7" ∷ []) ∷
-    record {
-      entry = R;
-      text = "%1=var %0 = var pc %0 1 %2:i08=add %1, -0 cand %2 007";
-      lent = rows 100 3 100 100;
-      answer = Refused 7 42;
-      print = [];
-    } ∷ []
+    accepted R whole (Read 1 4 6 0) ("%1 = var" ∷ "%2:i8 = add %1, 0" ∷ "cand %2 7" ∷ []) ∷
+    accepted R ordered (Read 1 7 7 6)
+    ("%b = block 2" ∷
+    "%y = var" ∷
+    "%x:i8 = var (nonZero) (knownBits=0x1)" ∷
+    "%p:i8 = phi %b, %y, %x (range=[-1,4))" ∷
+    "%s:i8 = sub %p, %y (signBits=3)" ∷
+    "infer %s (demandedBits=01)" ∷
+    "%u = var" ∷
+    "%r = shl %x, %u (hasExternalUses)" ∷
+    "result %r" ∷ []) ∷
+    short R whole (rows 100 3 100 100) 42 ∷
+    short R whole (rows 100 100 0 100) 19 ∷
+    short R whole (rows 100 100 1 100) 24 ∷
+    short R ordered (rows 100 100 100 2) 86 ∷
+    short L "%a=var infer %a %b=var infer %b" (rows 0 100 100 100) 16 ∷
+    short T "result 1:i8 result 2" (rows 0 100 100 100) 9 ∷ []
 
 -- an answer, and the bytes of a print
 pub record Told : Type 0 where
@@ -110,7 +133,7 @@ abbrev lines : List String → List ℕ
 lines [] = []
 lines (l ∷ ls) = bytes l ++ (10 ∷ lines ls)
 
--- what the definitions say of each example, and what document 01 says
+-- what the definitions say of each example, and what is settled
 abbrev pub given : List Example → List Told
 given [] = []
 given (x ∷ l) = told (bytes (x .text)) (x .lent) (reading (x .entry) (bytes (x .text)) (x .lent)) ∷ given l

@@ -1,1 +1,1 @@
-// Document 01's settled examples, computed from the definitions. No code.
+// The settled examples, computed from the definitions. No code.
