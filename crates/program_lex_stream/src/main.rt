@@ -5,6 +5,15 @@ use libc::STDIN_FILENO;
 use libc::STDOUT_FILENO;
 use rules::LexReport;
 use stream::Stream;
+ghost use mathlib.Core.Path.{_≡_};
+ghost use lib.ListN.{length};
+ghost use Rattle.io.specs.Counts.{Counts};
+
+// How many bytes a read brought, and whether it failed.
+struct Got {
+    bytes: usize,
+    failed: bool,
+}
 
 // Where the lexer stands at the end of what was read, and whether it was a failure that ended reading.
 struct Fed {
@@ -28,12 +37,12 @@ fn feed(part: &mut [u8]) -> Fed {
     let mut state = Stream::start();
     let mut parts: u64 = 0;
     while parts < 18446744073709551615 {
-        let got = libc::read(STDIN_FILENO, part);
-        let n = io::count(got, part);
+        let got = read_part(part);
+        let n = got.bytes;
         if n == 0 {
             return Fed {
                 state,
-                failed: got < 0,
+                failed: got.failed,
             };
         }
         state = state.part(&part[..n]);
@@ -42,6 +51,18 @@ fn feed(part: &mut [u8]) -> Fed {
     Fed {
         state,
         failed: true,
+    }
+}
+
+// One read of standard input: no byte at its end, or where it fails.
+fn read_part(part: &mut [u8]) -> Got
+    ensures { λ r. ⌜ Counts (r .bytes) (now (part .exit)) ⌝ }
+    ensures { λ r. ⌜ length (now (part .exit)) ≡ length (now (part .entry)) ⌝ }
+{
+    let got = libc::read(STDIN_FILENO, part);
+    Got {
+        bytes: io::count(got, part),
+        failed: got < 0,
     }
 }
 
