@@ -1,1 +1,1 @@
-// Document 01's settled examples, computed from the definitions. No code.
+// Document 01's settled examples, and those of lexing as a text arrives, computed from the definitions. No code.

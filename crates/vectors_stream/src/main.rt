@@ -84,10 +84,7 @@ fn halves_alike(text: &[u8], report: LexReport) -> bool {
 fn in_halves(text: &[u8], at: usize) -> LexReport
     requires { ⌜ at ≤ length (now text) ⌝ }
 {
-    Stream::start()
-        .part(&text[0..at])
-        .part(&text[at..])
-        .end()
+    Stream::start().part(&text[0..at]).part(&text[at..]).end()
 }
 
 // The report of a text in parts of so many bytes.
