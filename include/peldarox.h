@@ -1,4 +1,5 @@
-/* peldarox.h -- read Souper IR into tables lent by the caller, print such tables, and find names in them.
+/* peldarox.h -- read Souper IR into tables lent by the caller, print such tables, and find names in them; lex a text
+   that arrives in parts.
 
    The library takes no memory of its own but its stack, less than 40 KB for a read and less than 80 KB for a
    print or a name. It keeps nothing between calls and calls nothing back: everything a call knows is in its arguments,
@@ -149,6 +150,57 @@ void peldarox_name(const uint8_t *text, size_t text_bytes,
                    uint64_t operand_count, uint64_t attribute_count,
                    uint64_t row,
                    uint64_t report[6]);
+
+/* Lex a text as it arrives, in parts of any length: start once, give every part in its turn, then end. Nothing is told
+   before the end. However the text is cut, and also where it comes whole in one part, the report is the same.
+
+     state, state_words   where the lexer keeps what it knows between calls: PELDAROX_LEXER_WORDS words or more. Before
+                          the start they may hold anything. Words behind those are never touched. The state is all that
+                          is kept, so a copy of it can be gone on with, and several texts can be lexed side by side.
+     part, part_bytes     the next bytes of the text, as few or as many as have come, also none. They are only read, and
+                          need not be kept after the call.
+     report               eight words, all of them written by every call:
+
+                            report[0]   the number of the answer
+                            report[1]   the place: counted in bytes from the text's first; 0 where there is none. Of 9
+                                        the words needed
+                            report[2]   of an end, how many tokens stand before the refusal, or in all; 0 for 1, 2 and 9
+
+                          The rest is 0. A start and a part answer 0 or 9 and nothing else.
+
+   The answers of an end. 1 is given before 2, and 2 before 3 and 16, of which it is the one that comes first.
+
+     No.  Given when                                                      Place
+     0    all of the text are tokens, white space and comments            0
+     1    the text is longer than 65,536 bytes                            65,536
+     2    the text is not well-formed UTF-8                               first byte of the first bad sequence
+     3    no token can be made of the bytes                               the byte where that fails
+     9    the state has too few words                                     words needed
+     16   a token is longer than PELDAROX_LONGEST_TOKEN bytes             its first byte
+
+   The length of a token counts all its bytes, the `%` of a name and `knownBits=` too. Where no token is too long, the
+   report is that of lexing the whole text at once.
+
+   What is left behind. 9: nothing is changed. A start and a part write the first PELDAROX_LEXER_WORDS words of the
+   state; an end changes nothing, so parts may follow it. Any words are a state: a call that is given others than these
+   calls left ends as well, and touches nothing else; what an end then tells means nothing.
+
+   Each byte is looked at once, whatever the parts, and less than 1 KB of stack is used. Pointers as for a read: the
+   state and the report overlap nothing else that is lent to the call. */
+
+/* How many 64-bit words the state of the lexer has. */
+#define PELDAROX_LEXER_WORDS 14
+
+/* The longest token that is carried, in bytes. */
+#define PELDAROX_LONGEST_TOKEN 4096
+
+void peldarox_lex_start(uint64_t *state, size_t state_words, uint64_t report[8]);
+
+void peldarox_lex_part(uint64_t *state, size_t state_words,
+                       const uint8_t *part, size_t part_bytes,
+                       uint64_t report[8]);
+
+void peldarox_lex_end(const uint64_t *state, size_t state_words, uint64_t report[8]);
 
 #ifdef __cplusplus
 }

@@ -1,18 +1,31 @@
 //! Copies the modules of souper-ir 2.1.0 from SOUPER_IR_SRC, by default ../shared/docs/src seen from the repository's root.
 use std::{env, fs, path::Path, path::PathBuf};
 
-/// The one addition to the crate: a way to read what it keeps to itself.
-const FAULT_OFFSET: &str = "
+/// The additions to the crate: ways to read what it keeps to itself.
+const READABLE: &str = "
 impl ParseError {
     /// The byte offset of the fault, where it is no fault of input or output.
     pub fn fault_offset(&self) -> Option<usize> {
         self.offset()
     }
 }
+
+/// How many tokens the lexer finds in a text, and the byte offset of its fault where it finds one.
+pub fn lexed(source: &str) -> (u64, Option<usize>) {
+    let mut lexer = Lexer::new(source);
+    let mut tokens = 0;
+    loop {
+        match lexer.next_token() {
+            Ok(Some(_)) => tokens += 1,
+            Ok(None) => return (tokens, None),
+            Err(fault) => return (tokens, fault.offset()),
+        }
+    }
+}
 ";
 
 const MODULES: [(&str, &str, &str); 3] =
-    [("pub mod", "ast", ""), ("pub mod", "parse", FAULT_OFFSET), ("mod", "stringify", "")];
+    [("pub mod", "ast", ""), ("pub mod", "parse", READABLE), ("mod", "stringify", "")];
 
 fn main() {
     println!("cargo:rerun-if-env-changed=SOUPER_IR_SRC");

@@ -6,6 +6,7 @@ pub mod damage;
 pub mod generate;
 pub mod judge;
 pub mod lexer;
+pub mod lexing;
 pub mod library;
 pub mod memory;
 pub mod model;

@@ -7,8 +7,14 @@ pub const READS: bool = cfg!(ours);
 /// Whether the library's printer, and the call for a name, are linked.
 pub const PRINTS: bool = cfg!(ours_print);
 
+/// Whether the library's calls that lex a text as it arrives are linked.
+pub const LEXES: bool = cfg!(ours_lex);
+
 /// What every call reports.
 pub type Report = [u64; 6];
+
+/// What a call that lexes reports.
+pub type LexReport = [u64; 8];
 
 /// What stands in a report before a call.
 const UNTOLD: u64 = 0xA5C3_0FF1_5EED_1E55;
@@ -109,6 +115,43 @@ pub fn name(text: &[u8], tables: [&[u32]; 4], counts: Rows, row: u64) -> Report 
         )
     }
     told(report)
+}
+
+/// A call that lexes.
+#[derive(Clone, Copy, Debug)]
+pub enum LexCall<'a> {
+    Start,
+    Part(&'a [u8]),
+    End,
+}
+
+/// The library's report of a call that lexes with this state.
+#[cfg(ours_lex)]
+pub fn lex(state: &mut [u64], call: LexCall) -> LexReport {
+    extern "C" {
+        fn peldarox_lex_start(state: *mut u64, state_words: usize, report: *mut u64);
+        fn peldarox_lex_part(state: *mut u64, words: usize, part: *const u8, part_bytes: usize, report: *mut u64);
+        fn peldarox_lex_end(state: *const u64, state_words: usize, report: *mut u64);
+    }
+    let mut report = [UNTOLD; 10];
+    let told = report[1..].as_mut_ptr();
+    // SAFETY: every pointer is to as many words or bytes as the length behind it says; report is to nine words.
+    unsafe {
+        match call {
+            LexCall::Start => peldarox_lex_start(state.as_mut_ptr(), state.len(), told),
+            LexCall::Part(part) => {
+                peldarox_lex_part(state.as_mut_ptr(), state.len(), part.as_ptr(), part.len(), told)
+            }
+            LexCall::End => peldarox_lex_end(state.as_ptr(), state.len(), told),
+        }
+    }
+    assert_eq!((report[0], report[9]), (UNTOLD, UNTOLD), "written beside the report");
+    std::array::from_fn(|word| report[word + 1])
+}
+
+#[cfg(not(ours_lex))]
+pub fn lex(_: &mut [u64], _: LexCall) -> LexReport {
+    unreachable!("the library's calls that lex are not linked")
 }
 
 /// The six words of a report, which stands between two that must not change.

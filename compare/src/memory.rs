@@ -77,6 +77,13 @@ impl Guarded {
         unsafe { std::slice::from_raw_parts_mut(bytes.as_mut_ptr().cast(), words) }
     }
 
+    /// A part of so many words of 64 bits to be written, with rubbish beside it.
+    pub fn long_words(&mut self, words: usize, edge: Edge) -> &mut [u64] {
+        let bytes = self.bytes(words * 8, edge);
+        // SAFETY: as many bytes as the words have, aligned since regions and words have lengths that 8 divides.
+        unsafe { std::slice::from_raw_parts_mut(bytes.as_mut_ptr().cast(), words) }
+    }
+
     /// The same part to be read.
     pub fn read_bytes(&self, bytes: usize, edge: Edge) -> &[u8] {
         // SAFETY: the bytes are the region's, and borrowed as it is.

@@ -2,7 +2,7 @@
 use crate::answer::*;
 use crate::judge::LIBRARY;
 use crate::memory::{Memory, CASE};
-use crate::{damage, generate, library, model, oracle, ours, printing, random::Random, settled, short, table_run};
+use crate::{damage, generate, lexing, library, model, oracle, ours, printing, random::Random, settled, short, table_run};
 use std::panic::{catch_unwind, AssertUnwindSafe};
 use std::sync::atomic::Ordering;
 
@@ -38,7 +38,7 @@ pub fn run(plan: &Plan) -> u64 {
     tally.stage("short texts of tokens", |tally| short::token_texts(plan.tokens, &mut |text| tally.compare(text)));
     tally.stage("texts by the grammar, whole and damaged", |tally| random_texts(plan, tally));
     tally.show();
-    tally.differences + damaged_tables(plan, &mut tally.memory)
+    tally.differences + damaged_tables(plan, &mut tally.memory) + lexing::run(plan.texts, plan.seed)
 }
 
 /// Compares damaged tables; answers how many differ.

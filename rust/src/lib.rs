@@ -35,15 +35,30 @@
 //! # Ok::<(), peldarox::Refusal>(())
 //! ```
 //!
+//! A text that arrives in parts is lexed by a [`LexStream`], in memory of a fixed size and however it is cut:
+//!
+//! ```
+//! use peldarox::{LexStream, Lexed};
+//! use std::io::Write;
+//!
+//! let mut stream = LexStream::new();
+//! stream.write_all(b"%a = va")?;
+//! stream.write_all(b"r")?;
+//! assert_eq!(stream.finish(), Lexed { tokens: 3, refusal: None });
+//! # Ok::<(), std::io::Error>(())
+//! ```
+//!
 //! Where there is no heap, [`raw`] has the same calls over memory that the caller lends, and the feature `std` is left out.
 #![cfg_attr(not(feature = "std"), no_std)]
 #![warn(missing_docs)]
 
+mod lexing;
 #[cfg(feature = "std")]
 mod lists;
 pub mod raw;
 mod refusal;
 
+pub use lexing::{LexStream, Lexed};
 #[cfg(feature = "std")]
 pub use lists::{
     parse_left_hand_sides_str, parse_replacements_str, parse_right_hand_sides_str, LeftHandSides, Replacements,

@@ -22,6 +22,7 @@
 //! assert_eq!(&output[..bytes], text);
 //! # Ok::<(), peldarox::Refusal>(())
 //! ```
+use crate::lexing::Lexed;
 use crate::refusal::Refusal;
 
 /// The longest text that is read, in bytes; also the most rows that a table gets.
@@ -38,6 +39,12 @@ pub const OPERAND_WORDS: usize = 7;
 
 /// How many words a row of attributes has.
 pub const ATTRIBUTE_WORDS: usize = 11;
+
+/// How many words the state of the lexer has.
+pub const LEXER_WORDS: usize = 14;
+
+/// The longest token that is carried from part to part, in bytes; a longer one is refused.
+pub const LONGEST_TOKEN: usize = 4_096;
 
 /// What a text is a list of.
 #[derive(Clone, Copy, Debug, PartialEq, Eq, Hash)]
@@ -105,6 +112,8 @@ impl Counts {
 
 type Report = [u64; 6];
 
+type LexReport = [u64; 8];
+
 #[rustfmt::skip]
 type Reader = unsafe extern "C" fn(
     text: *const u8, text_bytes: usize, items: *mut u32, item_words: usize, statements: *mut u32, statement_words: usize,
@@ -136,6 +145,11 @@ extern "C" {
         statement_words: usize, operands: *const u32, operand_words: usize, attributes: *const u32, attribute_words: usize,
         item_count: u64, statement_count: u64, operand_count: u64, attribute_count: u64, row: u64, report: *mut Report,
     );
+    fn peldarox_lex_start(state: *mut u64, state_words: usize, report: *mut LexReport);
+    fn peldarox_lex_part(
+        state: *mut u64, state_words: usize, part: *const u8, part_bytes: usize, report: *mut LexReport,
+    );
+    fn peldarox_lex_end(state: *const u64, state_words: usize, report: *mut LexReport);
 }
 
 /// Reads a text into tables. A table has room for its words divided by its row length, rounded down. With a row of items for two
@@ -198,6 +212,52 @@ pub fn name<'t>(text: &'t [u8], tables: Tables<'_>, counts: Counts, row: u64) ->
     }
     let (first, bytes) = (report[1] as usize, report[2] as usize);
     &text[first..first + bytes]
+}
+
+/// Starts to lex a text that arrives in parts: the first [`LEXER_WORDS`] words are the state, and those behind them stay.
+/// Refusal 9 says how many words are needed.
+///
+/// ```
+/// use peldarox::{raw, Lexed};
+///
+/// let mut state = [0; raw::LEXER_WORDS];
+/// raw::lex_start(&mut state)?;
+/// raw::lex_part(&mut state, b"%a = va")?;
+/// raw::lex_part(&mut state, b"r")?;
+/// assert_eq!(raw::lex_end(&state)?, Lexed { tokens: 3, refusal: None });
+/// # Ok::<(), peldarox::Refusal>(())
+/// ```
+pub fn lex_start(state: &mut [u64]) -> Result<(), Refusal> {
+    let mut report = [0; 8];
+    // SAFETY: as for a read.
+    unsafe { peldarox_lex_start(state.as_mut_ptr(), state.len(), &mut report) }
+    room(report)
+}
+
+/// Lexes the next part of a text. Refusal 9 says how many words the state needs.
+pub fn lex_part(state: &mut [u64], part: &[u8]) -> Result<(), Refusal> {
+    let mut report = [0; 8];
+    // SAFETY: as for a read.
+    unsafe { peldarox_lex_part(state.as_mut_ptr(), state.len(), part.as_ptr(), part.len(), &mut report) }
+    room(report)
+}
+
+/// What a text comes to where it ends here; the state is left as it is. Refusal 9 says how many words the state needs.
+pub fn lex_end(state: &[u64]) -> Result<Lexed, Refusal> {
+    let mut report = [0; 8];
+    // SAFETY: as for a read.
+    unsafe { peldarox_lex_end(state.as_ptr(), state.len(), &mut report) }
+    room(report)?;
+    let refusal = (report[0] != 0).then_some(Refusal { number: report[0] as u32, place: report[1] });
+    Ok(Lexed { tokens: report[2], refusal })
+}
+
+/// Refusal 9 of a lexer's call, if it is one.
+fn room(report: LexReport) -> Result<(), Refusal> {
+    match report[0] {
+        9 => Err(Refusal { number: 9, place: report[1] }),
+        _ => Ok(()),
+    }
 }
 
 /// A report's refusal, if it is one.

@@ -1,1 +1,1 @@
-// The settled examples, computed from the definitions. No code.
+// The settled examples, and those of lexing as a text arrives, computed from the definitions. No code.

@@ -1,6 +1,6 @@
 // The lexer: the next token of a text at or after a cursor. The text is lent to each call, and the cursor is a value.
-mod space;
-mod token;
+pub mod space;
+pub mod token;
 
 use rules::Cursor;
 use rules::Front;

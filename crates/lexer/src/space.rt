@@ -57,7 +57,7 @@ fn within(lo: u32, hi: u32, c: u32) -> bool
 }
 
 // Whether a code point is white space.
-fn is_white(c: u32) -> bool
+pub fn is_white(c: u32) -> bool
     ensures { λ r. ⌜ r ≡ white c ⌝ }
 {
     let mut k: usize = 0;
@@ -72,7 +72,7 @@ fn is_white(c: u32) -> bool
 }
 
 // Whether b is ASCII white space.
-fn is_blank(b: u8) -> bool
+pub fn is_blank(b: u8) -> bool
     ensures { λ r. ⌜ r ≡ blank b ⌝ }
 {
     scan::inside(9, 13, b) || b == b' '

@@ -23,7 +23,7 @@ pub fn single(b: u8) -> u32
 }
 
 // Whether an integer starts with b.
-fn starts_int(b: u8) -> bool
+pub fn starts_int(b: u8) -> bool
     ensures { λ r. ⌜ r ≡ intStart b ⌝ }
 {
     b == b'-' || scan::is_digit(b)

@@ -1,8 +1,9 @@
--- Document 01 as definitions, a file for each of its sections. They mention no code.
+-- Document 01 as definitions, a file for each of its sections, and request A6 of document 02 (Streamed). They mention no code.
 pub mod Bytes
 pub mod Utf8
 pub mod Space
 pub mod Tokens
+pub mod Streamed
 pub mod Integers
 pub mod Instructions
 pub mod Keywords

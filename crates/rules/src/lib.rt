@@ -45,6 +45,13 @@ pub enum Lexed {
     Refused(usize),
 }
 
+// What a lexing came to: how many tokens stand before the first refusal, its number, 0 for none, and its place.
+pub struct LexReport {
+    pub tokens: u32,
+    pub number: u32,
+    pub place: u64,
+}
+
 // A token as the reader keeps it, in the 32 bits of a row's word: its kind, 0 for no token, its first byte and the byte past its last.
 pub struct Spot {
     pub kind: u32,
