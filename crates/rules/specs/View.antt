@@ -1,4 +1,4 @@
--- What rows say: from the text and the words of the four tables to items with names for references and numbers for numbers.
+-- Section 5 of docs/RULES.md. What rows say: from the text and the words of the four tables to items with names for references and numbers for numbers.
 -- Every function is total: whatever the words are, they are seen as something. WellFormed says which words say what a text can say.
 -- Assumes nothing.
 use Prim.Native.Nat.{ℕ, zero, suc, _+_, _-_}
