@@ -1,7 +1,7 @@
 #!/usr/bin/env python3
 """Writes the files stdin and stdout beside it: the lines that the program reads, and what it must answer.
 
-The answers are those of Python's own integers and regular expressions, from the words of document 01, and of nothing else here:
+The answers are those of Python's own integers and regular expressions, from the words of the rules (docs/RULES.md, section 1), and of nothing else here:
 an integer is '-' or nothing and then digits, from -2^127 to 2^127 - 1; a type is 'i' and digits, from 1 to 65535.
 Run it by hand after a change of the lines: python3 make_vectors.py"""
 import os

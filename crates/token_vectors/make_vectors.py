@@ -1,7 +1,7 @@
 #!/usr/bin/env python3
 """Writes the files stdin and stdout of the program token_vectors: texts, one to a line, and the tokens that each has.
 
-The lexer below was written for this purpose alone, from document 01 and from `Lexer` of the crate souper-ir 2.1.0
+The lexer below was written for this purpose alone, from the rules (docs/RULES.md, section 1) and from `Lexer` of the crate souper-ir 2.1.0
 (src/parse.rs): over characters and their offsets, as the crate has it, and not from the definitions or the code of
 this repository. White_Space is the list of the 25 characters that the Unicode Character Database gives it.
 
@@ -114,7 +114,7 @@ def tokens(text):
         return out + "refused %d" % e.place
 
 
-# Document 01's settled examples, and the whole print.
+# Settled examples (docs/RULES.md, section 9), and the whole print.
 SETTLED = ["", "%0 = add %0, 1", "%0 =", "%0", "cand - 1", "%a:i0 = var infer %a", "%a:i65536 = var infer %a",
            "%a:i65535 = var infer %a", "%a = var (knownBits =0)", "%a = var (knownBits=)", "%0=var %0=var", "pc 1 2",
            "result 1 result %x", "%b = block 2 %p = phi %b, 1", "cand 170141183460469231731687303715884105728 0",

@@ -1,4 +1,4 @@
--- Document 01's sentences on the lexer, as worked examples of the definition: one table, and one statement that every answer in it is right.
+-- The sentences of docs/RULES.md on tokens, as worked examples of the definition: one table, and one statement that every answer in it is right.
 -- Assumes nothing.
 use mathlib.Core.Path.{_≡_, refl}
 use mathlib.Core.List.{List, [], _∷_, map}

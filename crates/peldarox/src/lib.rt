@@ -1,4 +1,4 @@
-// The public calls. Nothing is asked of a caller: whatever is lent, each call ends with an answer of document 01's table, and its contract determines that
+// The public calls. Nothing is asked of a caller: whatever is lent, each call ends with an answer of the table in docs/RULES.md, and its contract determines that
 // answer and every lent word. exports.rt and lex_exports.rt have the same calls for C.
 pub mod exports;
 pub mod lex_exports;
@@ -117,7 +117,7 @@ fn refused(
     Answer::Refused { number, place }
 }
 
-// The number of document 01's table for what is at fault.
+// The number of what is at fault.
 fn number_of(what: u32) -> u32
     ensures { λ r. ⌜ r ≡ faultNumber what ⌝ }
 {

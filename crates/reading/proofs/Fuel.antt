@@ -1,4 +1,4 @@
--- The definition's fuel is enough: no reading stops for want of it, so every refusal has a number of document 01's table.
+-- The definition's fuel is enough: no reading stops for want of it, so every refusal has a number from 1 to 7.
 -- Assumes nothing.
 use Prim.Native.Nat.{ℕ, suc, _≤_}
 use mathlib.Core.Path.{_≡_}
@@ -25,7 +25,7 @@ use Rattle.reading.proofs.Ends.{Ends, goes, stops, seq, arms, either, s
 use Rattle.reading.proofs.Many.{Stops, many-stops}
 use Rattle.reading.proofs.Rules.{empty, Closed, items-good}
 
--- the faults that have a number in document 01's table
+-- the faults that have a number
 abbrev pub Numbered : ℕ → Spot → Type 0
 Numbered n t = (1 ≤ n) × (n ≤ 8)
 

@@ -1,4 +1,4 @@
--- Answers: which number and place of document 01's table a reading gets, and every word of the lent tables.
+-- Section 4 of docs/RULES.md. Answers: which number and place of the table a reading gets, and every word of the lent tables.
 -- Assumes nothing.
 use Prim.Native.Nat.{ℕ, _-_}
 use mathlib.Core.Path.{_≡_}
@@ -48,7 +48,7 @@ start text l =
           };
     }
 
--- the number of a fault in document 01's table
+-- the number of a fault
 unfoldable pub faultNumber : ℕ → ℕ
 faultNumber f =
     cond (eqb f fault.lexer) 3

@@ -1,4 +1,4 @@
--- Bytes: quoted texts as lists of numbers, tests on bytes, and how far a text goes on in one way.
+-- Section 1 of docs/RULES.md. Bytes: quoted texts as lists of numbers, tests on bytes, and how far a text goes on in one way.
 -- Assumes nothing.
 use Prim.Native.Nat.{ℕ, zero, suc, _-_}
 use Prim.Native.Char.{code}

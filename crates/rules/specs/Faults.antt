@@ -1,4 +1,4 @@
--- What can be at fault in a text, as numbers of our own. Answers says which number of document 01's table each is.
+-- Section 4 of docs/RULES.md. What can be at fault in a text, as numbers of our own. Answers says which number of the table each is.
 -- Assumes nothing.
 use Prim.Native.Nat.{ℕ}
 

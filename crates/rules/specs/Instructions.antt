@@ -1,4 +1,4 @@
--- The instructions, in the order of the crate's grammar comment, and the other keywords.
+-- Section 2 of docs/RULES.md. The instructions, in the order of the crate's grammar comment, and the other keywords.
 -- Assumes nothing.
 use Prim.Native.Nat.{ℕ, suc}
 use Prim.Native.String.{String}

@@ -1,4 +1,4 @@
--- Integers: how decimals are read, what fits a field, and the shortest decimal.
+-- Section 1 of docs/RULES.md. Integers: how decimals are read, what fits a field, and the shortest decimal.
 -- A number of 128 bits is its two's complement, a number below 2^128.
 -- Assumes nothing.
 use Prim.Native.Nat.{ℕ, zero, suc, _+_, _-_, _*_, _/_, _%_, _^_}

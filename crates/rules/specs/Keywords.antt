@@ -1,4 +1,4 @@
--- What each keyword is called: its place in the list `keywords` of Instructions.
+-- Section 2 of docs/RULES.md. What each keyword is called: its place in the list `keywords` of Instructions.
 -- Assumes nothing.
 use Prim.Native.Nat.{ℕ}
 

@@ -1,4 +1,4 @@
--- Document 01 as definitions, a file for each of its sections, and request A6 of document 02 (Streamed). They mention no code.
+-- The rules as definitions. Each file names its section of docs/RULES.md, which has them in words. They mention no code.
 pub mod Bytes
 pub mod Utf8
 pub mod Space

@@ -1,4 +1,4 @@
--- The listing: which statements of an item are printed, and in which order. It is defined with no visiting and no marks:
+-- Section 8 of docs/RULES.md. The listing: which statements of an item are printed, and in which order. It is defined with no visiting and no marks:
 -- the unfolding of a name is the unfoldings of all it refers to, left to right, and then itself; the listing is the first occurrences in the unfoldings of the roots.
 -- Assumes nothing.
 use mathlib.Core.Bool.{Bool, false, cond, _||_}

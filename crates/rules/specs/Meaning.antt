@@ -1,4 +1,4 @@
--- What an item means: its kind, its closing lines, and the set of assignments that can be reached from its roots. No order of visiting is in it.
+-- Section 7 of docs/RULES.md. What an item means: its kind, its closing lines, and the set of assignments that can be reached from its roots. No order of visiting is in it.
 -- Assumes nothing.
 use Prim.Native.Nat.{ℕ}
 use mathlib.Core.Path.{_≡_}

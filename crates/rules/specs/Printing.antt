@@ -1,4 +1,4 @@
--- Printing. Each definition says what stands before a text r.
+-- Section 8 of docs/RULES.md. Printing. Each definition says what stands before a text r.
 -- Assumes nothing.
 use Prim.Native.Nat.{ℕ}
 use mathlib.Core.List.{List, [], _∷_, _++_}

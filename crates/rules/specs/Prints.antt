@@ -1,4 +1,4 @@
--- What a print answers, and every word and byte that it leaves; which part of the text is a statement's name.
+-- Sections 4 and 8 of docs/RULES.md. What a print answers, and every word and byte that it leaves; which part of the text is a statement's name.
 -- Assumes nothing.
 use Prim.Native.Nat.{ℕ, _+_, _*_}
 use mathlib.Core.Path.{_≡_}

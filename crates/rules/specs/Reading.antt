@@ -1,4 +1,4 @@
--- Reading: the grammar, rule by rule, in the order of the crate's parser.
+-- Sections 2, 3 and 5 of docs/RULES.md. Reading: the grammar, rule by rule, in the order of the crate's parser; which names are in scope; when rows are claimed.
 -- Assumes nothing.
 use Prim.Native.Nat.{ℕ, zero, suc, _+_, _-_, min}
 use mathlib.Core.Bool.{Bool, true, false, cond, not, _&&_, _||_}

@@ -1,4 +1,4 @@
--- Rows of the four tables, and the words that they are kept as. docs/LAYOUT.md says the same in a table.
+-- Section 5 of docs/RULES.md. Rows of the four tables, and the words that they are kept as. docs/LAYOUT.md says the same in a table.
 -- Assumes nothing.
 use Prim.Native.Nat.{ℕ, _+_, _*_, _/_, _%_, _^_, min}
 use mathlib.Core.List.{List, [], _∷_}

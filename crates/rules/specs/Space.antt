@@ -1,4 +1,4 @@
--- White space and comments.
+-- Section 1 of docs/RULES.md. White space and comments.
 -- Assumes nothing.
 use Prim.Native.Nat.{ℕ, suc, _+_}
 use mathlib.Core.Bool.{Bool, true, false, cond, _&&_, _||_}

@@ -1,4 +1,4 @@
--- Items: statements and closing lines, with names for references and numbers for numbers. Meaning and printing speak of these alone.
+-- Section 7 of docs/RULES.md. Items: statements and closing lines, with names for references and numbers for numbers. Meaning and printing speak of these alone.
 -- A name is all its bytes, '%' included. A constant is its two's complement, a number below 2^128.
 -- Assumes nothing.
 use Prim.Native.Nat.{ℕ}

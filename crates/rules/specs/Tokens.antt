@@ -1,4 +1,4 @@
--- Tokens, one by one.
+-- Section 1 of docs/RULES.md. Tokens, one by one.
 -- Assumes nothing.
 use Prim.Native.Nat.{ℕ, zero, suc, _+_}
 use mathlib.Core.Bool.{Bool, cond, _||_}

@@ -1,4 +1,4 @@
--- Well-formed UTF-8, as the Unicode Standard's table 3-7 has it.
+-- Section 1 of docs/RULES.md. Well-formed UTF-8, as the Unicode Standard's table 3-7 has it.
 -- Assumes nothing.
 use Prim.Native.Nat.{ℕ, _+_, _*_, _%_}
 use mathlib.Core.Bool.{Bool, true, false, cond, _&&_}

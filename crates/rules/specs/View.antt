@@ -1,4 +1,4 @@
--- What rows say: from the text and the words of the four tables to items with names for references and numbers for numbers.
+-- Section 5 of docs/RULES.md. What rows say: from the text and the words of the four tables to items with names for references and numbers for numbers.
 -- Every function is total: whatever the words are, they are seen as something. WellFormed says which words say items that can be printed and read back, one by one;
 -- an entry point reads items of its own kinds alone, while the rows of well-formed tables may be of all four kinds.
 -- Assumes nothing.

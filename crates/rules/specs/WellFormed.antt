@@ -1,4 +1,4 @@
--- Which tables are well formed: document 01's sentence, each clause a test with a sentence of its own, and `wellFormed` all of them. Of a test against 0 the clause is "unused words 0".
+-- Section 6 of docs/RULES.md. Which tables are well formed: each clause a test with a sentence of its own, and `wellFormed` all of them. Of a test against 0 the clause is "unused words 0".
 -- They stand in the order in which they are tested: spans of rows are known to lie one behind the other before anything goes along them.
 -- Assumes nothing.
 use Prim.Native.Nat.{ℕ, _+_, _-_, _*_, _^_}

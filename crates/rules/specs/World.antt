@@ -1,4 +1,4 @@
--- What reading goes on in: the text, where the reader stands, the scope, and the four tables. A rule of the grammar is a parser over it.
+-- Section 5 of docs/RULES.md. What reading goes on in: the text, where the reader stands, the scope, and the four tables. A rule of the grammar is a parser over it.
 -- Assumes nothing.
 use Prim.Native.Nat.{ℕ, zero, suc, _+_}
 use mathlib.Core.Bool.{Bool, cond}

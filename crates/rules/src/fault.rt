@@ -1,4 +1,4 @@
-// What can be at fault in a text. Answers says which number of document 01's table each is.
+// What can be at fault in a text. Answers says which number each has.
 pub const NONE: u32 = 0;
 
 // The lexer refuses.

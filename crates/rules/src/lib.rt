@@ -1,4 +1,4 @@
-// The words that the definitions of specs/ and the code share. Types and constants alone: document 01's rules themselves stand in specs/.
+// The words that the definitions of specs/ and the code share. Types and constants alone: the rules themselves stand in specs/.
 pub mod code;
 pub mod fault;
 pub mod keyword;
@@ -127,7 +127,7 @@ pub enum Entry {
     RightHandSides,
 }
 
-// What a public call answers: how many rows of each table a read left, how many bytes a print wrote, or a number of document 01's table with its place.
+// What a public call answers: how many rows of each table a read left, how many bytes a print wrote, or the number of a refusal with its place.
 pub enum Answer {
     Read {
         items: u32,

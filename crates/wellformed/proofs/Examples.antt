@@ -1,5 +1,5 @@
 -- The tables that reading leaves are well formed, and no longer so with one thing changed: computed from the definitions, a line for each change.
--- And document 01's whole print, from the tables by what their rows say.
+-- And the whole print of docs/RULES.md, section 9, from the tables by what their rows say.
 -- Assumes nothing.
 use mathlib.Core.Path.{_≡_, refl}
 use mathlib.Core.Bool.{Bool, true, false}

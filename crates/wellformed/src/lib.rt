@@ -1,4 +1,4 @@
-// Whether lent tables are well formed, as document 01 has it: any text, any words and any counts may be lent.
+// Whether lent tables are well formed, by section 6 of docs/RULES.md: any text, any words and any counts may be lent.
 // Each function is a clause of the definition, and tests in the definition's order, so that no loop goes along rows that are not there.
 mod attribute;
 mod item;
