@@ -185,8 +185,8 @@ void peldarox_name(const uint8_t *text, size_t text_bytes,
    state; an end changes nothing, so parts may follow it. Any words are a state: a call that is given others than these
    calls left ends as well, and touches nothing else; what an end then tells means nothing.
 
-   Each byte is looked at once, whatever the parts, and less than 1 KB of stack is used. Pointers as for a read: the
-   state and the report overlap nothing else that is lent to the call. */
+   The time is linear in the bytes, however they are cut, and less than 1 KB of stack is used. Pointers as for a read:
+   the state and the report overlap nothing else that is lent to the call. */
 
 /* How many 64-bit words the state of the lexer has. */
 #define PELDAROX_LEXER_WORDS 14

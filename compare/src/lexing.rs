@@ -90,7 +90,8 @@ pub fn run(texts: u64, seed: u64) -> u64 {
     if library::LEXES {
         lent.any_state(&mut random);
     }
-    let linked = if library::LEXES { "crate, model and the library" } else { "crate and model; the library is not linked" };
+    let linked =
+        if library::LEXES { "crate, model and the library" } else { "crate and model; the library is not linked" };
     println!("\n{} texts lexed as they arrive, in {} cuts", lent.texts, lent.cuts);
     println!("compared: {}\ndifferences: {}", linked, lent.differences);
     lent.differences
@@ -100,13 +101,17 @@ pub fn run(texts: u64, seed: u64) -> u64 {
 fn long_texts() -> Vec<Vec<u8>> {
     let mut texts = vec![];
     for bytes in [LONGEST_TOKEN - 1, LONGEST_TOKEN, LONGEST_TOKEN + 1] {
-        for (front, filler) in [("", b'a'), ("%", b'.'), ("-", b'1'), ("", b'9'), ("knownBits=", b'x'), ("knownBits", b'_')] {
+        for (front, filler) in
+            [("", b'a'), ("%", b'.'), ("-", b'1'), ("", b'9'), ("knownBits=", b'x'), ("knownBits", b'_')]
+        {
             let token = [front.as_bytes(), &vec![filler; bytes - front.len()]].concat();
             texts.extend([token.clone(), [b"x ", &token[..], b",%"].concat(), [&token[..], b"\xFF"].concat()]);
         }
     }
     for bytes in [LONGEST - 1, LONGEST, LONGEST + 1] {
-        for (filler, end) in [(&b" "[..], &b"%"[..]), (b",", b"knownBits"), (b"; ", b"\xE2\x80"), (b"\xE2\x80\x83", b"a")] {
+        for (filler, end) in
+            [(&b" "[..], &b"%"[..]), (b",", b"knownBits"), (b"; ", b"\xE2\x80"), (b"\xE2\x80\x83", b"a")]
+        {
             let mut text = filler.repeat(bytes / filler.len() + 1);
             text.truncate(bytes - end.len());
             texts.push([&text[..], end].concat());
@@ -133,7 +138,8 @@ impl Lent {
             places.sort();
             places
         };
-        let mut cuts = vec![vec![], (1..text.len()).collect(), places(random, 2), places(random, 5), places(random, 40)];
+        let mut cuts =
+            vec![vec![], (1..text.len()).collect(), places(random, 2), places(random, 5), places(random, 40)];
         if text.len() <= EVERY_CUT {
             cuts.extend((0..=text.len()).map(|at| vec![at]));
         }
@@ -180,7 +186,8 @@ impl Lent {
         if !self.state.is_whole(words * 8, edge) || (bytes > 0 && !self.part.is_whole(bytes, edge)) {
             return Err("memory beside what is lent is changed".to_string());
         }
-        if words > LEXER_WORDS && self.state.long_words(words, edge)[LEXER_WORDS..].iter().any(|word| *word != RUBBISH) {
+        if words > LEXER_WORDS && self.state.long_words(words, edge)[LEXER_WORDS..].iter().any(|word| *word != RUBBISH)
+        {
             return Err("words behind the state are changed".to_string());
         }
         if !ends && told != report(ACCEPTED, 0, 0) {

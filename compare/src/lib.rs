@@ -5,6 +5,7 @@ pub mod counting;
 pub mod damage;
 pub mod generate;
 pub mod judge;
+pub mod lex_speed;
 pub mod lexer;
 pub mod lexing;
 pub mod library;

@@ -139,9 +139,7 @@ pub fn lex(state: &mut [u64], call: LexCall) -> LexReport {
     unsafe {
         match call {
             LexCall::Start => peldarox_lex_start(state.as_mut_ptr(), state.len(), told),
-            LexCall::Part(part) => {
-                peldarox_lex_part(state.as_mut_ptr(), state.len(), part.as_ptr(), part.len(), told)
-            }
+            LexCall::Part(part) => peldarox_lex_part(state.as_mut_ptr(), state.len(), part.as_ptr(), part.len(), told),
             LexCall::End => peldarox_lex_end(state.as_ptr(), state.len(), told),
         }
     }

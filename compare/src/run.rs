@@ -2,7 +2,9 @@
 use crate::answer::*;
 use crate::judge::LIBRARY;
 use crate::memory::{Memory, CASE};
-use crate::{damage, generate, lexing, library, model, oracle, ours, printing, random::Random, settled, short, table_run};
+use crate::{
+    damage, generate, lexing, library, model, oracle, ours, printing, random::Random, settled, short, table_run,
+};
 use std::panic::{catch_unwind, AssertUnwindSafe};
 use std::sync::atomic::Ordering;
 

@@ -6,7 +6,7 @@
 use crate::answer::*;
 use crate::counting::most_bytes;
 use crate::random::Random;
-use crate::{generate, library, model, oracle};
+use crate::{generate, lex_speed, library, model, oracle};
 use souper_ir::{ast::Replacement, parse::parse_replacements_str};
 use std::fmt::Write;
 use std::hint::black_box;
@@ -28,9 +28,9 @@ struct Parts {
 }
 
 /// A text, and its name in the table.
-struct File {
-    name: String,
-    text: Vec<u8>,
+pub(crate) struct File {
+    pub(crate) name: String,
+    pub(crate) text: Vec<u8>,
 }
 
 /// Times every file and shows the tables.
@@ -51,6 +51,7 @@ pub fn speed(rounds: usize) {
     println!("\n| our print of                          |  bytes |   test | measuring | writing |  whole |");
     println!("|---------------------------------------|-------:|-------:|----------:|--------:|-------:|");
     parts.iter().for_each(|(file, parts)| show_parts(&file.name, parts.as_ref().expect("a print of every file")));
+    lex_speed::speed(&files, |file| rounds_of(file, rounds));
 }
 
 /// Rules files, and single items.
@@ -141,7 +142,7 @@ fn each_mut(tables: &mut [Vec<u32>; 4]) -> [&mut [u32]; 4] {
 const INTERRUPTED: u128 = 1_000_000;
 
 /// The nanoseconds of the quickest of some rounds; what a round answers is dropped after its time is taken.
-fn least<T>(rounds: usize, mut round: impl FnMut() -> T) -> u128 {
+pub(crate) fn least<T>(rounds: usize, mut round: impl FnMut() -> T) -> u128 {
     let once = |_| {
         let processor = processor_time();
         let start = Instant::now();
@@ -170,7 +171,7 @@ fn processor_time() -> u128 {
     time[0] as u128 * 1_000_000_000 + time[1] as u128
 }
 
-fn a_byte(time: u128, bytes: usize) -> String {
+pub(crate) fn a_byte(time: u128, bytes: usize) -> String {
     format!("{:.2}", time as f64 / bytes as f64)
 }
 
