@@ -2,7 +2,8 @@
 """make_vectors.py PARSE_RS: writes stdin and stdout beside this script.
 
 PARSE_RS is the crate's src/parse.rs. Its grammar comment has the instructions, each with its operands, and the other words in
-quotes; stdin has all of them and words that miss them by little, one a line."""
+quotes. stdin has all of them, one a line, and words that miss them by little: each letter changed, missing, twice and in its
+other case, the first letter of one before the rest of another as long, and nothing."""
 import os
 import re
 import sys
@@ -29,7 +30,11 @@ def main():
 
     words = names + KEYWORDS + ["", "knownBits", "knownBits=0", " ", "a", ".", "addnsw addnuw", "x" * 300]
     for w in names + KEYWORDS:
+        for i in range(len(w)):
+            before, letter, behind = w[:i], w[i], w[i + 1 :]
+            words += [before + chr(ord(letter) ^ 1) + behind, before + behind, before + letter + letter + behind, before + letter.swapcase() + behind]
         words += [w[:-1], w[1:], w + "s", w + " ", " " + w, w.ljust(18), w[0].upper() + w[1:], w.upper(), w.swapcase(), w[:-1] + "_", w + "\0"]
+    words += sorted({a[0] + b[1:] for a in names + KEYWORDS for b in names + KEYWORDS if len(a) == len(b)})
     here = os.path.dirname(os.path.abspath(__file__))
     open(os.path.join(here, "stdin"), "w").write("".join(w + "\n" for w in words))
     open(os.path.join(here, "stdout"), "w").write("".join(tell(w) + "\n" for w in words))

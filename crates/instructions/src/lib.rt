@@ -1,18 +1,19 @@
 // The words that a text can hold: the instructions, whose names and arities are constant tables, and the other keywords.
-// A word is looked for by a comparison with each in turn; how it is looked for shows nowhere outside.
+// A word is looked for among those of its length and first letter; how it is looked for shows nowhere outside.
+mod keywords;
 mod search;
 mod table;
 
-use rules::keyword;
+pub use keywords::keyword;
 pub use search::instruction;
 use table::ARITIES;
 use table::NAMES;
 use table::STARTS;
 ghost use mathlib.Core.Path.{_≡_};
-ghost use Prim.Native.Nat.{_+_, _<_};
-ghost use lib.ListN.{length, drop};
+ghost use Prim.Native.Nat.{_<_};
+ghost use lib.ListN.{length};
 ghost use Rattle.rules.specs.Out.{Wrote};
-ghost use Rattle.rules.specs.Instructions.{arityOf, instructionName, placeOf, keywords, keywordOf};
+ghost use Rattle.rules.specs.Instructions.{arityOf, instructionName};
 ghost use Rattle.instructions.specs.Table.{letters, places};
 
 // How long name k of the table is.
@@ -60,75 +61,4 @@ pub fn put_instruction(k: usize, out: &mut [u8]) -> usize
     }
     let names = NAMES;
     output::put(name(&names, &starts, k), out)
-}
-
-// The keyword that w is, by its number; `keyword::OTHER` where w is none.
-pub fn keyword(w: &[u8]) -> u8
-    ensures { λ r. ⌜ r ≡ keywordOf (now (w .entry)) ⌝ }
-{
-    if scan::same(w, b"var") {
-        return keyword::VAR;
-    }
-    if scan::same(w, b"block") {
-        return keyword::BLOCK;
-    }
-    if scan::same(w, b"phi") {
-        return keyword::PHI;
-    }
-    if scan::same(w, b"reservedinst") {
-        return keyword::RESERVEDINST;
-    }
-    if scan::same(w, b"reservedconst") {
-        return keyword::RESERVEDCONST;
-    }
-    if scan::same(w, b"pc") {
-        return keyword::PC;
-    }
-    if scan::same(w, b"blockpc") {
-        return keyword::BLOCKPC;
-    }
-    if scan::same(w, b"infer") {
-        return keyword::INFER;
-    }
-    if scan::same(w, b"result") {
-        return keyword::RESULT;
-    }
-    if scan::same(w, b"cand") {
-        return keyword::CAND;
-    }
-    attribute(w)
-}
-
-// The same, of the words of attributes alone, which are the keywords from number 10 on.
-fn attribute(w: &[u8]) -> u8
-    ensures { λ r. ⌜ r ≡ 10 + placeOf (now (w .entry)) (drop 10 keywords) ⌝ }
-{
-    if scan::same(w, b"powerOfTwo") {
-        return keyword::POWER_OF_TWO;
-    }
-    if scan::same(w, b"negative") {
-        return keyword::NEGATIVE;
-    }
-    if scan::same(w, b"nonNegative") {
-        return keyword::NON_NEGATIVE;
-    }
-    if scan::same(w, b"nonZero") {
-        return keyword::NON_ZERO;
-    }
-    if scan::same(w, b"hasExternalUses") {
-        return keyword::HAS_EXTERNAL_USES;
-    }
-    if scan::same(w, b"signBits") {
-        return keyword::SIGN_BITS;
-    }
-    if scan::same(w, b"range") {
-        return keyword::RANGE;
-    }
-    if scan::same(w, b"demandedBits") {
-        return keyword::DEMANDED_BITS;
-    }
-    if scan::same(w, b"harvestedFromUse") {
-        return keyword::HARVESTED_FROM_USE;
-    }
-    keyword::OTHER
 }

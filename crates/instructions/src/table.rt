@@ -1,6 +1,6 @@
 // The instructions, in the order of the crate's grammar comment: their names, for the print, and how many operands each takes. A constant is laid out on
 // the stack at each use, so the names stand without gaps, and where they start and the arities, which are few bytes, are constants of their own; and the
-// search goes through none of them, but compares with each name in code.
+// search goes through none of them: the names that it compares with stand in code.
 
 pub const NAMES: [u8; 381] = *b"\
     add\
