@@ -1,3 +1,4 @@
 -- What the proofs share.
 pub mod Endings
 pub mod Unique
+pub mod UniqueStores

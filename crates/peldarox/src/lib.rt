@@ -1,6 +1,7 @@
 // The public calls. Nothing is asked of a caller: whatever is lent, each call ends with an answer of document 01's table, and its contract determines that
-// answer and every lent word. exports.rt has the same calls for C.
+// answer and every lent word. exports.rt and stored_exports.rt have the same calls for C.
 pub mod exports;
+pub mod stored_exports;
 
 pub use prints::name;
 pub use prints::print;
@@ -9,6 +10,8 @@ use rules::Answer;
 use rules::Checked;
 use rules::Entry;
 use rules::fault;
+pub use store::load;
+pub use store::store;
 use tables::State;
 use tables::clear_tables;
 use tables::start;

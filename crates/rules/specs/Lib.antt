@@ -19,3 +19,4 @@ pub mod Printing
 pub mod View
 pub mod WellFormed
 pub mod Prints
+pub mod Stored

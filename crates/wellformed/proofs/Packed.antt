@@ -13,7 +13,8 @@ use Rattle.rules.specs.Rows.{itemLength, statementLength, operandLength, attrib
 use Rattle.rules.specs.WellFormed.{Counts, only, isZero, wordFits, countFits, restUnused, tableOk, tablesOk}
 use Rattle.laws.proofs.Cases.{by-cases, leb-iff}
 use Rattle.laws.proofs.Tests.{and-left, and-right}
-use Rattle.packed.specs.Packed.{fourBytes, inWords, table}
+use Rattle.rules.specs.Stored.{fourBytes, inWords}
+use Rattle.packed.specs.Packed.{table}
 use Rattle.packed.proofs.Words.{words-length, word-there, no-word, only-words}
 use Rattle.wellformed.specs.Parts.{rowsOk, few, rowsIn, Whole, counted}
 use Rattle.wellformed.proofs.Places.{Small}

@@ -6,7 +6,8 @@ use borrow.Author.Tests.{le-leb, lt-leb}
 use Rattle.rules.specs.WellFormed.{wellFormed, shortText, tablesOk}
 use Rattle.rules.specs.Rows.{itemLength, statementLength, operandLength, attributeLength}
 use Rattle.laws.proofs.Tests.{said-not-not}
-use Rattle.packed.specs.Packed.{inWords, table}
+use Rattle.rules.specs.Stored.{inWords}
+use Rattle.packed.specs.Packed.{table}
 use Rattle.wellformed.specs.Parts.{rowsOk, few, rowsIn, counted}
 use Rattle.wellformed.proofs.Packed.{packed-tables, few-small}
 use Rattle.wellformed.proofs.Clauses.{stops, goes, passed, failed}
