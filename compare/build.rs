@@ -5,6 +5,7 @@ use std::{env, fs, path::Path, path::PathBuf};
 fn main() {
     println!("cargo:rustc-check-cfg=cfg(ours)");
     println!("cargo:rustc-check-cfg=cfg(ours_print)");
+    println!("cargo:rustc-check-cfg=cfg(ours_store)");
     println!("cargo:rerun-if-env-changed=PELDAROX_ARCHIVE");
     let archive = match env::var_os("PELDAROX_ARCHIVE") {
         Some(path) => PathBuf::from(path),
@@ -22,6 +23,9 @@ fn main() {
     println!("cargo:rustc-cfg=ours");
     if names(&bytes, "peldarox_print") && names(&bytes, "peldarox_name") {
         println!("cargo:rustc-cfg=ours_print");
+    }
+    if names(&bytes, "peldarox_store") && names(&bytes, "peldarox_load") {
+        println!("cargo:rustc-cfg=ours_store");
     }
     println!("cargo:rustc-link-search=native={}", archive.parent().unwrap().display());
     println!("cargo:rustc-link-lib=static=peldarox");

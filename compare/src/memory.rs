@@ -101,6 +101,7 @@ pub struct Memory {
     pub tables: [Guarded; 4],
     pub work: Guarded,
     pub output: Guarded,
+    pub file: Guarded,
     pub edge: Edge,
 }
 
@@ -114,6 +115,7 @@ impl Memory {
             tables: ROW_WORDS.map(|words| Guarded::new((LONGEST + 2) * words * 4)),
             work: Guarded::new((4 * LONGEST + 16) * 4),
             output: Guarded::new(32 * LONGEST),
+            file: Guarded::new(LONGEST * 160),
             edge: Edge::Back,
         }
     }

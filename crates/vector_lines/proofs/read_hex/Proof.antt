@@ -5,8 +5,8 @@ use lib.ListN.{length, length-set}
 use lib.Seq.{length-take-le}
 use borrow.Author.Needs.{needs}
 use borrow.Author.Tests.{ltb-true}
-use Rattle.replay.proofs.lines.read_hex.Statement.{statement}
-use Rattle.replay.proofs.lines.read_hex.Tie as tie
+use Rattle.vector_lines.proofs.read_hex.Statement.{statement}
+use Rattle.vector_lines.proofs.read_hex.Tie as tie
 
 abbrev Inv-loop : tie.InvT-loop
 Inv-loop line bytes₀ i₀ bytes i = (i ≤ length bytes) × (length bytes ≡ length bytes₀)

@@ -3,8 +3,8 @@
 use Prim.Native.Nat.{_-_, _≤_}
 use borrow.Author.Needs.{needs}
 use lib.ListN.{length}
-use Rattle.replay.proofs.lines.number.Statement.{statement}
-use Rattle.replay.proofs.lines.number.Tie as tie
+use Rattle.vector_lines.proofs.number.Statement.{statement}
+use Rattle.vector_lines.proofs.number.Tie as tie
 
 abbrev Inv-loop : tie.InvT-loop
 Inv-loop line at most value₀ i₀ value i = value ≤ most

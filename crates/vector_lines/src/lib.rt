@@ -1,4 +1,5 @@
-// The fields of a line of the sample.
+// The fields of a line that a program is asked by, and what it writes: numbers in decimal, bytes in hex digits.
+use libc::STDOUT_FILENO;
 ghost use Prim.Native.Nat.{_≤_, _<_};
 ghost use lib.ListN.{length};
 ghost use Rattle.io.specs.Counts.{Counts};
@@ -68,8 +69,32 @@ fn digit(c: u8) -> u8
 }
 
 // The lesser of two numbers.
-fn least(a: usize, b: usize) -> usize
+pub fn least(a: usize, b: usize) -> usize
     ensures { λ r. ⌜ r ≤ b ⌝ }
 {
     if a < b { a } else { b }
+}
+
+// Writes a number in decimal.
+pub fn put_decimal(n: u64) {
+    io::print_decimal(STDOUT_FILENO, n);
+}
+
+// Writes bytes.
+pub fn put(bytes: &[u8]) {
+    io::write_all(STDOUT_FILENO, bytes);
+}
+
+// Writes the first `n` bytes, as far as there are, in hex digits.
+pub fn put_hex(bytes: &[u8], n: usize) {
+    let mut i = 0;
+    while i < bytes.len() && i < n {
+        put_byte(bytes[i]);
+        i += 1;
+    }
+}
+
+// Writes a byte in two hex digits.
+fn put_byte(byte: u8) {
+    io::print_hex(STDOUT_FILENO, byte as u64, 2);
 }

@@ -3,8 +3,8 @@
 use Prim.Native.Nat.{_-_}
 use borrow.Author.Needs.{needs}
 use lib.ListN.{length}
-use Rattle.replay.proofs.prints.put_hex.Statement.{statement}
-use Rattle.replay.proofs.prints.put_hex.Tie as tie
+use Rattle.vector_lines.proofs.put_hex.Statement.{statement}
+use Rattle.vector_lines.proofs.put_hex.Tie as tie
 
 abbrev Inv-loop : tie.InvT-loop
 Inv-loop bytes n i₀ i = Unit {0}
