@@ -6,6 +6,7 @@ fn main() {
     println!("cargo:rustc-check-cfg=cfg(ours)");
     println!("cargo:rustc-check-cfg=cfg(ours_print)");
     println!("cargo:rustc-check-cfg=cfg(ours_lex)");
+    println!("cargo:rustc-check-cfg=cfg(ours_store)");
     println!("cargo:rerun-if-env-changed=PELDAROX_ARCHIVE");
     let archive = match env::var_os("PELDAROX_ARCHIVE") {
         Some(path) => PathBuf::from(path),
@@ -26,6 +27,9 @@ fn main() {
     }
     if names(&bytes, "peldarox_lex_start") {
         println!("cargo:rustc-cfg=ours_lex");
+    }
+    if names(&bytes, "peldarox_store") && names(&bytes, "peldarox_load") {
+        println!("cargo:rustc-cfg=ours_store");
     }
     println!("cargo:rustc-link-search=native={}", archive.parent().unwrap().display());
     println!("cargo:rustc-link-lib=static=peldarox");

@@ -1,8 +1,8 @@
-/* peldarox.h -- read Souper IR into tables lent by the caller, print such tables, and find names in them; lex a text
-   that arrives in parts.
+/* peldarox.h -- read Souper IR into tables lent by the caller, print such tables, find names in them, and keep them
+   in files; lex a text that arrives in parts.
 
-   The library takes no memory of its own but its stack, less than 40 KB for a read and less than 80 KB for a
-   print or a name. It keeps nothing between calls and calls nothing back: everything a call knows is in its arguments,
+   The library takes no memory of its own but its stack, less than 40 KB for a read and less than 80 KB for any other
+   call. It keeps nothing between calls and calls nothing back: everything a call knows is in its arguments,
    everything it has to say is in what it is lent to write and in the report. Any bytes, any lengths, any counts and
    any contents of the tables are allowed; every call ends, with one of the answers below. Calls that share no memory
    that one of them writes may run at the same time. */
@@ -201,6 +201,89 @@ void peldarox_lex_part(uint64_t *state, size_t state_words,
                        uint64_t report[8]);
 
 void peldarox_lex_end(const uint64_t *state, size_t state_words, uint64_t report[8]);
+
+/* Rules on disk: a text and its tables as one file of bytes, so that a later run need not read the text again. The
+   report of these two calls has eight words, all of them written by every call; what is not named is 0. */
+
+/* How many bytes the file of a text and so many counted rows has. */
+#define PELDAROX_STORED_BYTES(text_bytes, item_count, statement_count, operand_count, attribute_count) \
+    ((text_bytes) + 36 * (item_count) + 40 * (statement_count) + 28 * (operand_count) + 44 * (attribute_count) + 44)
+
+/* Store a text and four tables: write their file.
+
+     text, text_bytes; items, statements, operands, attributes; item_count, statement_count, operand_count,
+     attribute_count    as for a print. They are only read.
+     output, output_bytes
+                        where the file goes. docs/LAYOUT.md says what its bytes are: the text, the counted rows of the
+                        four tables, and a trailer.
+     report             report[0], the number of the answer, and report[1], as below; report[2] to report[7] are 0.
+
+   The answers, tested in this order:
+
+     No.  Given when                                                      report[1]
+     8    the tables are not well formed                                  0
+     15   the output is shorter than the file                             0
+     0    stored                                                          bytes written
+
+   The file has PELDAROX_STORED_BYTES bytes of the text's length and the four counts. That of a text of n bytes which was
+   read has at most n + 100 n / 3 + 44 bytes, 2,250,113 for the longest text.
+
+   What is left behind. 8 and 15: nothing is changed. 0: of the output the bytes written are changed and no others.
+
+   Pointers as for a read: the output and the report overlap nothing else that is lent to the call. */
+
+void peldarox_store(const uint8_t *text, size_t text_bytes,
+                    const uint32_t *items, size_t item_words,
+                    const uint32_t *statements, size_t statement_words,
+                    const uint32_t *operands, size_t operand_words,
+                    const uint32_t *attributes, size_t attribute_words,
+                    uint64_t item_count, uint64_t statement_count,
+                    uint64_t operand_count, uint64_t attribute_count,
+                    uint8_t *output, size_t output_bytes,
+                    uint64_t report[8]);
+
+/* Load a file: take its text and its rows into lent memory. The tables are then as a read of the text leaves them, but
+   for the kind of list, which a file does not tell: each item row says its own.
+
+     file, file_bytes   the whole file, from its first byte to its last. Any bytes are allowed. It is only read.
+     text, text_bytes   where the text goes.
+     items, statements, operands, attributes
+                        where the rows go. Each count beside a table is in words, not in rows or bytes.
+     report             report[0], the number of the answer; where that is 0,
+
+                          report[1]   how many bytes of text, from the first lent byte on
+                          report[2]   how many rows of items, from word 0 of the table on
+                          report[3]   how many rows of statements
+                          report[4]   how many rows of operands
+                          report[5]   how many rows of attributes
+
+                        and the rest is 0; where it is another, all the rest is 0.
+
+   The answers, tested in this order:
+
+     No.  Given when
+     14   the file is shorter than its trailer, 44 bytes
+     13   its last word is not the version, 1
+     14   the parts overlap, leave gaps, run outside the file, or end in a broken row
+     15   the text is longer than the lent text, or a table has more words than the lent table
+     8    the tables are not well formed, or the text is longer than 65,536 bytes
+     0    loaded
+
+   What is left behind. Refused: nothing is changed. 0: the text stands at the front of the lent text, and the bytes behind
+   it are as they were; each table has its rows, and every word behind them is 0.
+
+   A file that was stored loads as the same text, counts and rows, into any memory that is long enough; and a file that
+   loads is exactly what a store of what was loaded writes.
+
+   Pointers as for a read: the text, the tables and the report overlap nothing else that is lent to the call. */
+
+void peldarox_load(const uint8_t *file, size_t file_bytes,
+                   uint8_t *text, size_t text_bytes,
+                   uint32_t *items, size_t item_words,
+                   uint32_t *statements, size_t statement_words,
+                   uint32_t *operands, size_t operand_words,
+                   uint32_t *attributes, size_t attribute_words,
+                   uint64_t report[8]);
 
 #ifdef __cplusplus
 }

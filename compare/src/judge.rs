@@ -119,7 +119,7 @@ impl<'t> Case<'t> {
     }
 
     /// What has changed that a call may only read, or that is not lent.
-    fn changed(&self, memory: &Memory) -> Option<String> {
+    pub fn changed(&self, memory: &Memory) -> Option<String> {
         let Memory { text, tables, edge, .. } = memory;
         let bytes = self.tables.text.len();
         if text.read_bytes(bytes, *edge) != self.tables.text || !text.is_whole(bytes, *edge) {

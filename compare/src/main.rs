@@ -8,7 +8,9 @@ use std::{env, path::Path, process::exit};
 static ALLOCATOR: Counting = Counting;
 
 const USAGE: &str = "\
-compare run [--texts N] [--tables M] [--seed S] [--tokens K]   compare many texts and damaged tables; status 1 where any differ
+compare run [--texts N] [--tables M] [--files F] [--seed S] [--tokens K]
+                                                               compare many texts, damaged tables and damaged files; status 1
+                                                               where any differ
 compare sample [FOLDER]                                        write the fixed sample to FOLDER/stdin and FOLDER/stdout
 compare tokens                                                 show the tokens of standard input, KIND FIRST PAST
 compare speed [--rounds N]                                     time reading and printing";
@@ -22,6 +24,7 @@ fn main() {
                 seed: option(&words, "--seed", 1),
                 tokens: option(&words, "--tokens", 2) as usize,
                 tables: option(&words, "--tables", 200_000),
+                files: option(&words, "--files", 200_000),
             };
             exit(if run::run(&plan) == 0 { 0 } else { 1 })
         }

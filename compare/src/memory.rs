@@ -108,6 +108,7 @@ pub struct Memory {
     pub tables: [Guarded; 4],
     pub work: Guarded,
     pub output: Guarded,
+    pub file: Guarded,
     pub edge: Edge,
 }
 
@@ -121,6 +122,7 @@ impl Memory {
             tables: ROW_WORDS.map(|words| Guarded::new((LONGEST + 2) * words * 4)),
             work: Guarded::new((4 * LONGEST + 16) * 4),
             output: Guarded::new(32 * LONGEST),
+            file: Guarded::new(LONGEST * 160),
             edge: Edge::Back,
         }
     }

@@ -1,5 +1,5 @@
-//! The proved library, where it is linked, on one text: its readings at any capacities, its print with any room, its names,
-//! and its print read back.
+//! The proved library, where it is linked, on one text: its readings at any capacities, its store and load, its print with any
+//! room, its names, and its print read back.
 use crate::answer::*;
 use crate::judge::Case;
 use crate::library::{PRINTS, READS};
@@ -7,6 +7,8 @@ use crate::memory::Memory;
 use crate::model::Reading;
 use crate::our_prints::wrong_printing;
 use crate::our_reads::{wrong_at_smaller, wrong_read};
+use crate::our_stores::wrong_storing;
+use crate::store_library::STORES;
 use crate::tables::Tables;
 
 /// What is wrong with the library's readings and prints of a text, against the model's reading and the crate's print.
@@ -25,6 +27,10 @@ pub fn wrong(entry: Entry, text: &[u8], reading: &Reading, print: &[u8], memory:
     let enough = if text.len() > LONGEST { [3; 4] } else { [text.len() as u64; 4] };
     wrong_read(entry, text, reading, tables.as_ref(), enough, memory)
         .or_else(|| wrong_at_smaller(entry, text, reading, tables.as_ref(), memory))
+        .or_else(|| match &tables {
+            Some(tables) if STORES => wrong_storing(tables, memory),
+            _ => None,
+        })
         .or_else(|| match tables {
             Some(tables) if PRINTS => wrong_printing(entry, tables, memory),
             _ => None,

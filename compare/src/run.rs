@@ -2,8 +2,11 @@
 use crate::answer::*;
 use crate::judge::LIBRARY;
 use crate::memory::{Memory, CASE};
+use crate::our_stores::STORE_LIBRARY;
+use crate::store_library::STORES;
 use crate::{
-    damage, generate, lexing, library, model, oracle, ours, printing, random::Random, settled, short, table_run,
+    damage, file_run, generate, lexing, library, model, oracle, ours, printing, random::Random, settled, short,
+    table_run,
 };
 use std::panic::{catch_unwind, AssertUnwindSafe};
 use std::sync::atomic::Ordering;
@@ -19,6 +22,8 @@ pub struct Plan {
     pub tokens: usize,
     /// How many damaged tables are compared.
     pub tables: u64,
+    /// How many damaged files are compared.
+    pub files: u64,
 }
 
 /// What has been compared so far.
@@ -40,7 +45,10 @@ pub fn run(plan: &Plan) -> u64 {
     tally.stage("short texts of tokens", |tally| short::token_texts(plan.tokens, &mut |text| tally.compare(text)));
     tally.stage("texts by the grammar, whole and damaged", |tally| random_texts(plan, tally));
     tally.show();
-    tally.differences + damaged_tables(plan, &mut tally.memory) + lexing::run(plan.texts, plan.seed)
+    tally.differences
+        + damaged_tables(plan, &mut tally.memory)
+        + damaged_files(plan, &mut tally.memory)
+        + lexing::run(plan.texts, plan.seed)
 }
 
 /// Compares damaged tables; answers how many differ.
@@ -50,6 +58,19 @@ fn damaged_tables(plan: &Plan, memory: &mut Memory) -> u64 {
     let linked = if library::PRINTS { "model and the library" } else { "the library's printer is not linked" };
     println!("\n{} damaged tables, {} of them well formed", tally.tables, tally.well_formed);
     println!("compared: {}\ndifferences: {}", linked, tally.differences);
+    tally.differences
+}
+
+/// Compares damaged files, and stores of damaged tables; answers how many differ.
+fn damaged_files(plan: &Plan, memory: &mut Memory) -> u64 {
+    let tally = file_run::run(plan.files, plan.seed, STORES.then_some(STORE_LIBRARY), memory);
+    let linked = if STORES { "model and the library" } else { "the library's store is not linked" };
+    let [loaded, .., malformed, _, _, _, _, version, parts, small] = tally.by_number;
+    println!(
+        "\n{} files, {} of them loaded; answers: 8 {}, 13 {}, 14 {}, 15 {}",
+        tally.files, loaded, malformed, version, parts, small
+    );
+    println!("{} stores of damaged tables\ncompared: {}\ndifferences: {}", tally.stores, linked, tally.differences);
     tally.differences
 }
 

@@ -6,7 +6,7 @@
 use crate::answer::*;
 use crate::counting::most_bytes;
 use crate::random::Random;
-use crate::{generate, lex_speed, library, model, oracle};
+use crate::{generate, lex_speed, library, model, oracle, store_speed};
 use souper_ir::{ast::Replacement, parse::parse_replacements_str};
 use std::fmt::Write;
 use std::hint::black_box;
@@ -28,9 +28,9 @@ struct Parts {
 }
 
 /// A text, and its name in the table.
-pub(crate) struct File {
-    pub(crate) name: String,
-    pub(crate) text: Vec<u8>,
+pub struct File {
+    pub name: String,
+    pub text: Vec<u8>,
 }
 
 /// Times every file and shows the tables.
@@ -51,6 +51,7 @@ pub fn speed(rounds: usize) {
     println!("\n| our print of                          |  bytes |   test | measuring | writing |  whole |");
     println!("|---------------------------------------|-------:|-------:|----------:|--------:|-------:|");
     parts.iter().for_each(|(file, parts)| show_parts(&file.name, parts.as_ref().expect("a print of every file")));
+    store_speed::show(&files, rounds);
     lex_speed::speed(&files, |file| rounds_of(file, rounds));
 }
 
@@ -76,7 +77,7 @@ fn statements_of(text: &[u8]) -> u64 {
 }
 
 /// More rounds where a file is short.
-fn rounds_of(file: &File, rounds: usize) -> usize {
+pub fn rounds_of(file: &File, rounds: usize) -> usize {
     rounds * (LONGEST / file.text.len()).clamp(1, 100)
 }
 
@@ -130,11 +131,11 @@ fn time_our_print(text: &[u8], print: &[u8], rounds: usize) -> Parts {
 }
 
 /// Tables of exactly so many rows.
-fn lent(counts: Rows) -> [Vec<u32>; 4] {
+pub fn lent(counts: Rows) -> [Vec<u32>; 4] {
     std::array::from_fn(|table| vec![0; counts[table] as usize * ROW_WORDS[table]])
 }
 
-fn each_mut(tables: &mut [Vec<u32>; 4]) -> [&mut [u32]; 4] {
+pub fn each_mut(tables: &mut [Vec<u32>; 4]) -> [&mut [u32]; 4] {
     tables.each_mut().map(|words| &mut words[..])
 }
 
@@ -142,7 +143,7 @@ fn each_mut(tables: &mut [Vec<u32>; 4]) -> [&mut [u32]; 4] {
 const INTERRUPTED: u128 = 1_000_000;
 
 /// The nanoseconds of the quickest of some rounds; what a round answers is dropped after its time is taken.
-pub(crate) fn least<T>(rounds: usize, mut round: impl FnMut() -> T) -> u128 {
+pub fn least<T>(rounds: usize, mut round: impl FnMut() -> T) -> u128 {
     let once = |_| {
         let processor = processor_time();
         let start = Instant::now();
@@ -171,7 +172,7 @@ fn processor_time() -> u128 {
     time[0] as u128 * 1_000_000_000 + time[1] as u128
 }
 
-pub(crate) fn a_byte(time: u128, bytes: usize) -> String {
+pub fn a_byte(time: u128, bytes: usize) -> String {
     format!("{:.2}", time as f64 / bytes as f64)
 }
 

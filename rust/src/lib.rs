@@ -48,6 +48,18 @@
 //! # Ok::<(), std::io::Error>(())
 //! ```
 //!
+//! A list that was read is kept as a file, and loaded from it without reading the text again:
+//!
+//! ```
+//! use peldarox::{parse_replacements_str, LeftHandSides, Replacements, StoredError};
+//!
+//! let rules = parse_replacements_str("%a = var cand %a 1")?;
+//! let file = rules.to_stored();
+//! assert_eq!(Replacements::from_stored(&file), Ok(rules));
+//! assert_eq!(LeftHandSides::from_stored(&file), Err(StoredError::OtherKind { item: 0 }));
+//! # Ok::<(), peldarox::Refusal>(())
+//! ```
+//!
 //! Where there is no heap, [`raw`] has the same calls over memory that the caller lends, and the feature `std` is left out.
 #![cfg_attr(not(feature = "std"), no_std)]
 #![warn(missing_docs)]
@@ -57,6 +69,8 @@ mod lexing;
 mod lists;
 pub mod raw;
 mod refusal;
+#[cfg(feature = "std")]
+mod stored;
 
 pub use lexing::{LexStream, Lexed};
 #[cfg(feature = "std")]
@@ -65,3 +79,5 @@ pub use lists::{
     RightHandSides,
 };
 pub use refusal::Refusal;
+#[cfg(feature = "std")]
+pub use stored::StoredError;

@@ -1,7 +1,8 @@
 //! Lists that own their text and their rows.
 use crate::raw::{self, Counts, Entry, Tables, TablesMut};
 use crate::refusal::Refusal;
-use std::{fmt, str::FromStr};
+use crate::stored::StoredError;
+use std::{fmt, ops::RangeInclusive, str::FromStr};
 
 /// A text that was accepted, and its rows: each table has the counted ones and no more.
 #[derive(Clone, Debug)]
@@ -42,6 +43,34 @@ impl List {
         Ok(list)
     }
 
+    /// Loads a file into as much memory as its trailer asks for. The kinds that an item may have are those of the list that is wanted.
+    fn load(kinds: RangeInclusive<u32>, file: &[u8]) -> Result<Self, StoredError> {
+        let [letters, tables @ ..] = raw::part_bytes(file);
+        let [items, statements, operands, attributes] = tables.map(|bytes| vec![0; bytes / 4]);
+        let mut list = List { text: String::new(), items, statements, operands, attributes, counts: Counts::default() };
+        let mut text = vec![0; letters];
+        let mut tables = TablesMut {
+            items: &mut list.items,
+            statements: &mut list.statements,
+            operands: &mut list.operands,
+            attributes: &mut list.attributes,
+        };
+        list.counts = raw::load(file, &mut text, &mut tables)?.1;
+        match list.items.chunks(raw::ITEM_WORDS).position(|row| !kinds.contains(&row[0])) {
+            Some(item) => return Err(StoredError::OtherKind { item }),
+            None => list.text = String::from_utf8(text).map_err(|_| StoredError::NoText)?,
+        }
+        Ok(list)
+    }
+
+    /// The list's file.
+    fn stored(&self) -> Vec<u8> {
+        let mut file = vec![0; self.counts.stored_bytes(self.text.len()) as usize];
+        raw::store(self.text.as_bytes(), self.tables(), self.counts, &mut file)
+            .expect("what was read or loaded is well formed, and the file has as many bytes as its counts tell");
+        file
+    }
+
     fn tables(&self) -> Tables<'_> {
         Tables {
             items: &self.items,
@@ -77,9 +106,9 @@ fn keep(table: &mut Vec<u32>, rows: u64, row_words: usize) {
     table.shrink_to_fit();
 }
 
-/// Declares the list of an entry point, and the call that reads it.
+/// Declares the list of an entry point, the kinds that its items' rows may have (docs/LAYOUT.md), and the call that reads it.
 macro_rules! list {
-    ($(#[$about:meta])* $Name:ident, $(#[$about_call:meta])* $parse:ident) => {
+    ($(#[$about:meta])* $Name:ident, $kinds:expr, $(#[$about_call:meta])* $parse:ident) => {
         $(#[$about])*
         #[derive(Clone, Debug)]
         pub struct $Name(List);
@@ -118,6 +147,16 @@ macro_rules! list {
             /// The name of a statement's row, with its `%`; empty for `pc`, `blockpc` and a row that is not there.
             pub fn name(&self, row: usize) -> &str {
                 self.0.name(row)
+            }
+
+            /// The list as a file: its text, its rows and a trailer.
+            pub fn to_stored(&self) -> Vec<u8> {
+                self.0.stored()
+            }
+
+            /// Loads a list from a file, without reading its text again. A file with an item of another kind is an error.
+            pub fn from_stored(file: &[u8]) -> Result<Self, StoredError> {
+                List::load($kinds, file).map($Name)
             }
         }
 
@@ -159,6 +198,7 @@ list! {
     /// # Ok::<(), peldarox::Refusal>(())
     /// ```
     Replacements,
+    1..=2,
     /// Reads replacements, up to the end of the text.
     parse_replacements_str
 }
@@ -166,6 +206,7 @@ list! {
 list! {
     /// Left-hand sides: each has statements, then `infer`.
     LeftHandSides,
+    3..=3,
     /// Reads left-hand sides, up to the end of the text.
     parse_left_hand_sides_str
 }
@@ -173,6 +214,7 @@ list! {
 list! {
     /// Right-hand sides: each has statements, then `result`.
     RightHandSides,
+    4..=4,
     /// Reads right-hand sides, up to the end of the text.
     parse_right_hand_sides_str
 }

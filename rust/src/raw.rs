@@ -20,6 +20,11 @@
 //! let (mut work, mut output) = ([0; 4], [0; 32]);
 //! let bytes = raw::print(text, tables.shared(), counts, &mut work, &mut output)?;
 //! assert_eq!(&output[..bytes], text);
+//!
+//! let (mut file, mut loaded) = ([0; 138], [0; 18]);
+//! assert_eq!(raw::store(text, tables.shared(), counts, &mut file), Ok(138));
+//! assert_eq!(raw::load(&file, &mut loaded, &mut tables), Ok((18, counts)));
+//! assert_eq!(&loaded, text);
 //! # Ok::<(), peldarox::Refusal>(())
 //! ```
 use crate::lexing::Lexed;
@@ -45,6 +50,9 @@ pub const LEXER_WORDS: usize = 14;
 
 /// The longest token that is carried from part to part, in bytes; a longer one is refused.
 pub const LONGEST_TOKEN: usize = 4_096;
+
+/// How many bytes the trailer of a stored file has.
+pub const TRAILER_BYTES: usize = 44;
 
 /// What a text is a list of.
 #[derive(Clone, Copy, Debug, PartialEq, Eq, Hash)]
@@ -108,11 +116,25 @@ impl Counts {
     pub fn work_words(&self) -> u64 {
         self.statements.saturating_mul(3).saturating_add(self.operands).saturating_add(1)
     }
+
+    /// How many bytes the file of a text of so many bytes with so many rows has.
+    pub fn stored_bytes(&self, text_bytes: usize) -> u64 {
+        let rows = [
+            (self.items, ITEM_WORDS),
+            (self.statements, STATEMENT_WORDS),
+            (self.operands, OPERAND_WORDS),
+            (self.attributes, ATTRIBUTE_WORDS),
+        ];
+        rows.iter().fold(text_bytes as u64 + TRAILER_BYTES as u64, |bytes, (count, words)| {
+            bytes.saturating_add(count.saturating_mul(4 * *words as u64))
+        })
+    }
 }
 
 type Report = [u64; 6];
 
-type LexReport = [u64; 8];
+/// What the calls that lex report, and a store and a load.
+type LongReport = [u64; 8];
 
 #[rustfmt::skip]
 type Reader = unsafe extern "C" fn(
@@ -145,11 +167,22 @@ extern "C" {
         statement_words: usize, operands: *const u32, operand_words: usize, attributes: *const u32, attribute_words: usize,
         item_count: u64, statement_count: u64, operand_count: u64, attribute_count: u64, row: u64, report: *mut Report,
     );
-    fn peldarox_lex_start(state: *mut u64, state_words: usize, report: *mut LexReport);
+    fn peldarox_lex_start(state: *mut u64, state_words: usize, report: *mut LongReport);
     fn peldarox_lex_part(
-        state: *mut u64, state_words: usize, part: *const u8, part_bytes: usize, report: *mut LexReport,
+        state: *mut u64, state_words: usize, part: *const u8, part_bytes: usize, report: *mut LongReport,
     );
-    fn peldarox_lex_end(state: *const u64, state_words: usize, report: *mut LexReport);
+    fn peldarox_lex_end(state: *const u64, state_words: usize, report: *mut LongReport);
+    fn peldarox_store(
+        text: *const u8, text_bytes: usize, items: *const u32, item_words: usize, statements: *const u32,
+        statement_words: usize, operands: *const u32, operand_words: usize, attributes: *const u32, attribute_words: usize,
+        item_count: u64, statement_count: u64, operand_count: u64, attribute_count: u64, output: *mut u8, output_bytes: usize,
+        report: *mut LongReport,
+    );
+    fn peldarox_load(
+        file: *const u8, file_bytes: usize, text: *mut u8, text_bytes: usize, items: *mut u32, item_words: usize,
+        statements: *mut u32, statement_words: usize, operands: *mut u32, operand_words: usize, attributes: *mut u32,
+        attribute_words: usize, report: *mut LongReport,
+    );
 }
 
 /// Reads a text into tables. A table has room for its words divided by its row length, rounded down. With a row of items for two
@@ -172,7 +205,7 @@ pub fn read(entry: Entry, text: &[u8], tables: &mut TablesMut<'_>) -> Result<Cou
             operands.as_mut_ptr(), operands.len(), attributes.as_mut_ptr(), attributes.len(), &mut report,
         )
     }
-    accepted(report)?;
+    accepted(&report)?;
     Ok(Counts { items: report[2], statements: report[3], operands: report[4], attributes: report[5] })
 }
 
@@ -192,7 +225,7 @@ pub fn print(
             counts.attributes, work.as_mut_ptr(), work.len(), output.as_mut_ptr(), output.len(), &mut report,
         )
     }
-    accepted(report)?;
+    accepted(&report)?;
     Ok(report[1] as usize)
 }
 
@@ -253,15 +286,63 @@ pub fn lex_end(state: &[u64]) -> Result<Lexed, Refusal> {
 }
 
 /// Refusal 9 of a lexer's call, if it is one.
-fn room(report: LexReport) -> Result<(), Refusal> {
+fn room(report: LongReport) -> Result<(), Refusal> {
     match report[0] {
         9 => Err(Refusal { number: 9, place: report[1] }),
         _ => Ok(()),
     }
 }
 
+/// Writes the file of a text and its tables, and answers how many bytes of the output it wrote: [`Counts::stored_bytes`]. Refusal 15
+/// says that the output is shorter, and 8 that the tables are not well formed; refused, the output is not changed.
+#[rustfmt::skip]
+pub fn store(text: &[u8], tables: Tables<'_>, counts: Counts, output: &mut [u8]) -> Result<usize, Refusal> {
+    let Tables { items, statements, operands, attributes } = tables;
+    let mut report = [0; 8];
+    // SAFETY: as for a read.
+    unsafe {
+        peldarox_store(
+            text.as_ptr(), text.len(), items.as_ptr(), items.len(), statements.as_ptr(), statements.len(), operands.as_ptr(),
+            operands.len(), attributes.as_ptr(), attributes.len(), counts.items, counts.statements, counts.operands,
+            counts.attributes, output.as_mut_ptr(), output.len(), &mut report,
+        )
+    }
+    accepted(&report)?;
+    Ok(report[1] as usize)
+}
+
+/// Takes a file's text and rows into lent memory, and answers how many bytes of text and rows there are. [`part_bytes`] says how
+/// much memory a file asks for. Words behind the rows are 0, bytes behind the text as they were; refused, nothing is changed.
+#[rustfmt::skip]
+pub fn load(file: &[u8], text: &mut [u8], tables: &mut TablesMut<'_>) -> Result<(usize, Counts), Refusal> {
+    let TablesMut { items, statements, operands, attributes } = tables;
+    let mut report = [0; 8];
+    // SAFETY: as for a read.
+    unsafe {
+        peldarox_load(
+            file.as_ptr(), file.len(), text.as_mut_ptr(), text.len(), items.as_mut_ptr(), items.len(),
+            statements.as_mut_ptr(), statements.len(), operands.as_mut_ptr(), operands.len(), attributes.as_mut_ptr(),
+            attributes.len(), &mut report,
+        )
+    }
+    accepted(&report)?;
+    let [_, bytes, items, statements, operands, attributes, ..] = report;
+    Ok((bytes as usize, Counts { items, statements, operands, attributes }))
+}
+
+/// How many bytes a file's trailer tells of its text, items, statements, operands and attributes; none more than the file has, and
+/// none of a file that has no trailer.
+pub fn part_bytes(file: &[u8]) -> [usize; 5] {
+    let Some(trailer) = file.len().checked_sub(TRAILER_BYTES) else { return [0; 5] };
+    core::array::from_fn(|part| {
+        let length = trailer + 8 * part + 4;
+        let word = [file[length], file[length + 1], file[length + 2], file[length + 3]];
+        file.len().min(u32::from_le_bytes(word) as usize)
+    })
+}
+
 /// A report's refusal, if it is one.
-fn accepted(report: Report) -> Result<(), Refusal> {
+fn accepted(report: &[u64]) -> Result<(), Refusal> {
     match report[0] {
         0 => Ok(()),
         number => Err(Refusal { number: number as u32, place: report[1] }),

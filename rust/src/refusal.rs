@@ -10,9 +10,10 @@ use core::fmt;
 /// ```
 #[derive(Clone, Copy, Debug, PartialEq, Eq, Hash)]
 pub struct Refusal {
-    /// What is wrong, from 1 to 10, or 16; [`Refusal::meaning`] says it in words.
+    /// What is wrong, from 1 to 10 or from 13 to 16; [`Refusal::meaning`] says it in words.
     pub number: u32,
-    /// Of 1 to 7 and 16 the byte of the text, counted from 0; of 9 the words and of 10 the bytes that are needed; of 8 nothing.
+    /// Of 1 to 7 and 16 the byte of the text, counted from 0; of 9 the words and of 10 the bytes that are needed; of 8 and
+    /// 13 to 15 nothing.
     pub place: u64,
 }
 
@@ -30,6 +31,9 @@ impl Refusal {
             8 => "the tables are not well formed",
             9 => "the work area has too few words",
             10 => "the output has too few bytes",
+            13 => "the file has a version that is not known",
+            14 => "the file's parts are not one after another, or it has no trailer",
+            15 => "the lent memory is too small",
             16 => "a token is longer than 4,096 bytes",
             _ => "no number of the table",
         }

@@ -53,21 +53,37 @@ fn read_some(text: &mut [u8]) -> Input
 // Writes a print, which stands at the front of the output, or a refusal as a line.
 pub fn tell(answer: Answer, output: &[u8]) {
     match answer {
-        Answer::Printed(n) => put(&output[..least(n as usize, output.len())]),
-        Answer::Refused { number, place } => {
-            put(b"refused ");
-            io::print_decimal(STDOUT_FILENO, number as u64);
-            put(b" at ");
-            io::print_decimal(STDOUT_FILENO, place);
-            put(b"\n");
-        }
+        Answer::Printed(n) => put_front(output, n),
+        Answer::Refused { number, place } => say_refusal(STDOUT_FILENO, number, place),
         Answer::Read { .. } => complain(b"a read is no print\n"),
     }
 }
 
-// Writes to standard output.
-fn put(bytes: &[u8]) {
-    if !io::write_all(STDOUT_FILENO, bytes) {
+// Writes the first bytes of an output.
+pub fn put_front(output: &[u8], bytes: u64) {
+    put(
+        STDOUT_FILENO,
+        &output[..least(bytes as usize, output.len())],
+    );
+}
+
+// Says a refusal as a line on standard error.
+pub fn refuse(number: u32, place: u64) {
+    say_refusal(STDERR_FILENO, number, place);
+}
+
+// Writes a refusal as a line.
+fn say_refusal(to: i32, number: u32, place: u64) {
+    put(to, b"refused ");
+    io::print_decimal(to, number as u64);
+    put(to, b" at ");
+    io::print_decimal(to, place);
+    put(to, b"\n");
+}
+
+// Writes to standard output or standard error.
+fn put(to: i32, bytes: &[u8]) {
+    if !io::write_all(to, bytes) {
         complain(b"standard output cannot be written\n");
     }
 }

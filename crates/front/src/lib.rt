@@ -3,7 +3,7 @@
 // A program has its stack and nothing else, some 8 MB, and a row of each table for each byte would take 9.7. Fewer rows are proved to be enough: an item has two
 // tokens of its own, a statement or an attribute three, an operand one (reading, Progress). So 7 never comes; neither does 9, as 3S + O + 1 is at most
 // twice the text's bytes and one; nor 10, as a print is at most twice as long as its text (grammar, PrintedLength). Never has it proved.
-mod console;
+pub mod console;
 
 use rules::Answer;
 use rules::Entry;
@@ -91,7 +91,7 @@ fn print_with(
 }
 
 // The read of an entry point.
-fn read(
+pub fn read(
     entry: Entry,
     text: &[u8],
     items: &mut [u32],

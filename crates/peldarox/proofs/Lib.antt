@@ -3,3 +3,4 @@ pub mod Endings
 pub mod Arriving
 pub mod Unique
 pub mod UniqueLexing
+pub mod UniqueStores

@@ -1,7 +1,8 @@
 // The public calls. Nothing is asked of a caller: whatever is lent, each call ends with an answer of the table in docs/RULES.md, and its contract determines that
-// answer and every lent word. exports.rt and lex_exports.rt have the same calls for C.
+// answer and every lent word. exports.rt, lex_exports.rt and stored_exports.rt have the same calls for C.
 pub mod exports;
 pub mod lex_exports;
+pub mod stored_exports;
 
 pub use prints::name;
 pub use prints::print;
@@ -10,6 +11,8 @@ use rules::Answer;
 use rules::Checked;
 use rules::Entry;
 use rules::fault;
+pub use store::load;
+pub use store::store;
 pub use stream::Stream;
 use tables::State;
 use tables::clear_tables;

@@ -1,11 +1,9 @@
 // Replays a sample of the comparison with the Rust crate. Each line of standard input is a question, and what is said of it is one line: reads.rt has
 // the readings, prints.rt the prints and names.
-mod lines;
 mod prints;
 mod reads;
 
 use libc::STDIN_FILENO;
-use libc::STDOUT_FILENO;
 
 // Reads up to 524,288 bytes of lines.
 fn main() {
@@ -26,20 +24,10 @@ fn replay_all(lines: &[u8]) {
 
 // Answers the question of a line.
 fn replay(line: &[u8]) {
-    match lines::letter(line, 0) {
+    match vector_lines::letter(line, 0) {
         b'P' => prints::replay_print(line),
         b'D' => prints::replay_damaged(line),
         b'N' => prints::replay_name(line),
         _ => reads::replay_read(line),
     }
-}
-
-// Writes a number in decimal.
-pub(crate) fn put_decimal(n: u64) {
-    io::print_decimal(STDOUT_FILENO, n);
-}
-
-// Writes bytes.
-pub(crate) fn put(bytes: &[u8]) {
-    io::write_all(STDOUT_FILENO, bytes);
 }

@@ -3,22 +3,21 @@
 // `P ENTRY WORK OUTPUT HEX` is a print with so many words of work area and so many bytes of output, `D ENTRY TABLE WORD VALUE HEX` a print after one word
 // of a table (0 to 3) is set to a value, with room enough; said of both is the number, the place, and the bytes printed in hex digits. `N ENTRY ROW HEX`
 // is the name of a statement row; said is its length and its bytes.
-use crate::lines;
-use crate::put;
-use crate::put_decimal;
 use crate::reads::read;
-use libc::STDOUT_FILENO;
 use rules::Answer;
+use vector_lines::put;
+use vector_lines::put_decimal;
+use vector_lines::put_hex;
 ghost use Prim.Native.Nat.{_≤_};
 
 // A print with the room that a line has.
 pub(crate) fn replay_print(line: &[u8]) {
     let mut bytes = [0u8; 256];
-    let words = lines::number(line, 4, 64);
-    let room = lines::number(line, words.past, 500);
-    let n = lines::text(line, room.past, &mut bytes);
+    let words = vector_lines::number(line, 4, 64);
+    let room = vector_lines::number(line, words.past, 500);
+    let n = vector_lines::text(line, room.past, &mut bytes);
     print_text(
-        lines::letter(line, 2),
+        vector_lines::letter(line, 2),
         &bytes[..n],
         4,
         0,
@@ -31,12 +30,12 @@ pub(crate) fn replay_print(line: &[u8]) {
 // A print after the word of a line is set.
 pub(crate) fn replay_damaged(line: &[u8]) {
     let mut bytes = [0u8; 256];
-    let table = lines::number(line, 4, 4);
-    let word = lines::number(line, table.past, 200);
-    let value = lines::number(line, word.past, 4294967295);
-    let n = lines::text(line, value.past, &mut bytes);
+    let table = vector_lines::number(line, 4, 4);
+    let word = vector_lines::number(line, table.past, 200);
+    let value = vector_lines::number(line, word.past, 4294967295);
+    let n = vector_lines::text(line, value.past, &mut bytes);
     print_text(
-        lines::letter(line, 2),
+        vector_lines::letter(line, 2),
         &bytes[..n],
         table.value,
         word.value,
@@ -160,9 +159,9 @@ fn tell(answer: Answer, output: &[u8]) {
 // The name of the row of a line.
 pub(crate) fn replay_name(line: &[u8]) {
     let mut bytes = [0u8; 256];
-    let row = lines::number(line, 4, 65536);
-    let n = lines::text(line, row.past, &mut bytes);
-    name_text(lines::letter(line, 2), &bytes[..n], row.value as u64);
+    let row = vector_lines::number(line, 4, 65536);
+    let n = vector_lines::text(line, row.past, &mut bytes);
+    name_text(vector_lines::letter(line, 2), &bytes[..n], row.value as u64);
 }
 
 // Reads a text and says the name of a row.
@@ -206,18 +205,4 @@ fn tell_name(name: &[u8]) {
     put(b" ");
     put_hex(name, name.len());
     put(b"\n");
-}
-
-// Writes the first `n` bytes, as far as there are, in hex digits.
-fn put_hex(bytes: &[u8], n: usize) {
-    let mut i = 0;
-    while i < bytes.len() && i < n {
-        put_byte(bytes[i]);
-        i += 1;
-    }
-}
-
-// Writes a byte in two hex digits.
-fn put_byte(byte: u8) {
-    io::print_hex(STDOUT_FILENO, byte as u64, 2);
 }

@@ -1,21 +1,20 @@
 // Readings. A line is an entry point (R, L or T), the capacities of the four tables in rows and a text in hex digits; said of it is the number, the place
 // and the four counts of its read.
-use crate::lines;
-use crate::put;
-use crate::put_decimal;
 use rules::Answer;
+use vector_lines::put;
+use vector_lines::put_decimal;
 ghost use Prim.Native.Nat.{_≤_};
 
 // Reads the text of a line and says what came of it.
 pub(crate) fn replay_read(line: &[u8]) {
     let mut bytes = [0u8; 65537];
-    let items = lines::number(line, 2, 15);
-    let statements = lines::number(line, items.past, 15);
-    let operands = lines::number(line, statements.past, 15);
-    let attributes = lines::number(line, operands.past, 15);
-    let n = lines::text(line, attributes.past, &mut bytes);
+    let items = vector_lines::number(line, 2, 15);
+    let statements = vector_lines::number(line, items.past, 15);
+    let operands = vector_lines::number(line, statements.past, 15);
+    let attributes = vector_lines::number(line, operands.past, 15);
+    let n = vector_lines::text(line, attributes.past, &mut bytes);
     tell(read_rows(
-        lines::letter(line, 0),
+        vector_lines::letter(line, 0),
         &bytes[..n],
         items.value,
         statements.value,

@@ -23,3 +23,4 @@ pub mod WellFormed
 pub mod Prints
 pub mod Grammar
 pub mod Calls
+pub mod Stored

@@ -141,3 +141,33 @@ pub enum Answer {
         place: u64,
     },
 }
+
+// The bytes of a stored file's five parts, as its trailer tells them.
+pub struct Lengths {
+    pub text: u32,
+    pub items: u32,
+    pub statements: u32,
+    pub operands: u32,
+    pub attributes: u32,
+}
+
+// What a store answers: how many bytes it wrote, or the number of a refusal with its place.
+pub enum StoreAnswer {
+    Stored(u64),
+    Refused { number: u32, place: u64 },
+}
+
+// What a load answers: how many bytes of text and rows of each table it left, or the number of a refusal with its place.
+pub enum LoadAnswer {
+    Loaded {
+        text: u64,
+        items: u32,
+        statements: u32,
+        operands: u32,
+        attributes: u32,
+    },
+    Refused {
+        number: u32,
+        place: u64,
+    },
+}

@@ -6,3 +6,4 @@ pub mod Codes
 pub mod Spans
 pub mod Marked
 pub mod Examples
+pub mod Packed

@@ -4,11 +4,12 @@ use crate::letters::known_in;
 use crate::letters::no_span;
 use crate::operand::at_most;
 use crate::sort::inside;
+use packed::attribute_at;
 use rules::Attribute;
 use rules::Span;
 use rules::code;
-use tables::rows::attribute_at;
 ghost use mathlib.Core.Path.{_≡_};
+ghost use Rattle.packed.specs.Packed.{table as tableOf};
 ghost use Rattle.rules.specs.WellFormed.{patternOk, greatest as greatestOf, numbersOk, attributeOk, attributesOk};
 
 // Whether an attribute has the pattern that its code wants, or none.
@@ -64,13 +65,20 @@ fn attribute_ok(text: &[u8], lo: u32, hi: u32, r: Attribute) -> bool
 }
 
 // Whether the attribute rows of a span are so.
-pub fn attributes_ok(text: &[u8], attributes: &[u32], lo: u32, hi: u32, s: Span) -> bool
-    ensures { λ r. ⌜ r ≡ attributesOk (now (text .entry)) (now (attributes .entry)) lo hi s ⌝ }
+pub fn attributes_ok(
+    text: &[u8],
+    attributes: &[u32],
+    attribute_bytes: &[u8],
+    lo: u32,
+    hi: u32,
+    s: Span,
+) -> bool
+    ensures { λ r. ⌜ r ≡ attributesOk (now (text .entry)) (tableOf (now (attributes .entry)) (now («attribute_bytes» .entry))) lo hi s ⌝ }
 {
     let end = s.past;
     let mut i = s.first;
     while i < end {
-        if !attribute_ok(text, lo, hi, attribute_at(attributes, i)) {
+        if !attribute_ok(text, lo, hi, attribute_at(attributes, attribute_bytes, i)) {
             return false;
         }
         i += 1;

@@ -1,8 +1,9 @@
 // Names and patterns: places in the text, and the letters there.
+use packed::name_at;
 use rules::Span;
 use tables::letters;
-use tables::rows::name_at;
 ghost use mathlib.Core.Path.{_≡_};
+ghost use Rattle.packed.specs.Packed.{table as tableOf};
 ghost use Rattle.rules.specs.Bytes.{bit, count, patternByte, same as sameBytes};
 ghost use Rattle.rules.specs.Rows.{nameAt};
 ghost use Rattle.rules.specs.WellFormed.{isName, nameIn, patternIn, noSpan, newName};
@@ -84,22 +85,22 @@ pub fn no_span(s: Span) -> bool
 }
 
 // Whether statement row k has a name.
-fn has_name(text: &[u8], statements: &[u32], k: u32, name: &[u8]) -> bool
-    ensures { λ r. ⌜ r ≡ sameBytes (nameAt (now (text .entry)) (now (statements .entry)) k) (now (name .entry)) ⌝ }
+fn has_name(text: &[u8], statements: &[u32], statement_bytes: &[u8], k: u32, name: &[u8]) -> bool
+    ensures { λ r. ⌜ r ≡ sameBytes (nameAt (now (text .entry)) (tableOf (now (statements .entry)) (now («statement_bytes» .entry))) k) (now (name .entry)) ⌝ }
 {
-    let s = name_at(statements, k);
+    let s = name_at(statements, statement_bytes, k);
     scan::same(letters(text, s.first, s.past), name)
 }
 
 // Whether no statement row from `first` up to i has the name of row i.
-pub fn new_name(text: &[u8], statements: &[u32], first: u32, i: u32) -> bool
-    ensures { λ r. ⌜ r ≡ newName (now (text .entry)) (now (statements .entry)) first i ⌝ }
+pub fn new_name(text: &[u8], statements: &[u32], statement_bytes: &[u8], first: u32, i: u32) -> bool
+    ensures { λ r. ⌜ r ≡ newName (now (text .entry)) (tableOf (now (statements .entry)) (now («statement_bytes» .entry))) first i ⌝ }
 {
-    let s = name_at(statements, i);
+    let s = name_at(statements, statement_bytes, i);
     let name = letters(text, s.first, s.past);
     let mut k = first;
     while k < i {
-        if has_name(text, statements, k, name) {
+        if has_name(text, statements, statement_bytes, k, name) {
             return false;
         }
         k += 1;

@@ -1,12 +1,13 @@
 // References, and operand rows.
 use crate::sort::is_assignment;
+use packed::code_at;
+use packed::operand_at;
 use rules::Operand;
 use rules::Span;
 use rules::Words;
 use rules::code;
-use tables::rows::code_at;
-use tables::rows::operand_at;
 ghost use mathlib.Core.Path.{_≡_};
+ghost use Rattle.packed.specs.Packed.{table as tableOf};
 ghost use Prim.Native.Nat.{_-_};
 ghost use Rattle.rules.specs.WellFormed.{long as longOf, among as amongOf, refersTo, refersToBlock, atMost, widthFits, valueOk, constantOk, operandOk, operandsOk};
 
@@ -28,23 +29,29 @@ fn among(first: u32, past: u32, i: u32) -> bool
 }
 
 // Whether row i is an assignment among the statements from `first` up to `past`.
-pub fn refers_to(statements: &[u32], first: u32, past: u32, i: u32) -> bool
-    ensures { λ r. ⌜ r ≡ refersTo (now (statements .entry)) first past i ⌝ }
+pub fn refers_to(statements: &[u32], statement_bytes: &[u8], first: u32, past: u32, i: u32) -> bool
+    ensures { λ r. ⌜ r ≡ refersTo (tableOf (now (statements .entry)) (now («statement_bytes» .entry))) first past i ⌝ }
 {
     if !among(first, past, i) {
         return false;
     }
-    is_assignment(code_at(statements, i))
+    is_assignment(code_at(statements, statement_bytes, i))
 }
 
 // Whether row i is a block among them.
-pub fn refers_to_block(statements: &[u32], first: u32, past: u32, i: u32) -> bool
-    ensures { λ r. ⌜ r ≡ refersToBlock (now (statements .entry)) first past i ⌝ }
+pub fn refers_to_block(
+    statements: &[u32],
+    statement_bytes: &[u8],
+    first: u32,
+    past: u32,
+    i: u32,
+) -> bool
+    ensures { λ r. ⌜ r ≡ refersToBlock (tableOf (now (statements .entry)) (now («statement_bytes» .entry))) first past i ⌝ }
 {
     if !among(first, past, i) {
         return false;
     }
-    code_at(statements, i) == code::BLOCK
+    code_at(statements, statement_bytes, i) == code::BLOCK
 }
 
 // Whether four words are a number up to n.
@@ -68,10 +75,10 @@ pub fn width_fits(w: u32) -> bool
 }
 
 // Whether a value refers to an assignment from `first` up to `past`, and is 0 otherwise.
-fn value_ok(statements: &[u32], first: u32, past: u32, r: Operand) -> bool
-    ensures { λ x. ⌜ x ≡ valueOk (now (statements .entry)) first past r ⌝ }
+fn value_ok(statements: &[u32], statement_bytes: &[u8], first: u32, past: u32, r: Operand) -> bool
+    ensures { λ x. ⌜ x ≡ valueOk (tableOf (now (statements .entry)) (now («statement_bytes» .entry))) first past r ⌝ }
 {
-    if !refers_to(statements, first, past, r.row) {
+    if !refers_to(statements, statement_bytes, first, past, r.row) {
         return false;
     }
     if r.width != 0 {
@@ -95,23 +102,37 @@ fn constant_ok(r: Operand) -> bool
 }
 
 // Whether an operand's row is a constant's, or refers to an assignment from `first` up to `past`.
-fn operand_ok(statements: &[u32], first: u32, past: u32, r: Operand) -> bool
-    ensures { λ x. ⌜ x ≡ operandOk (now (statements .entry)) first past r ⌝ }
+fn operand_ok(statements: &[u32], statement_bytes: &[u8], first: u32, past: u32, r: Operand) -> bool
+    ensures { λ x. ⌜ x ≡ operandOk (tableOf (now (statements .entry)) (now («statement_bytes» .entry))) first past r ⌝ }
 {
     if r.code == code::VALUE {
-        return value_ok(statements, first, past, r);
+        return value_ok(statements, statement_bytes, first, past, r);
     }
     constant_ok(r)
 }
 
 // Whether the operand rows of a span are so.
-pub fn operands_ok(statements: &[u32], operands: &[u32], first: u32, past: u32, s: Span) -> bool
-    ensures { λ r. ⌜ r ≡ operandsOk (now (statements .entry)) (now (operands .entry)) first past s ⌝ }
+pub fn operands_ok(
+    statements: &[u32],
+    statement_bytes: &[u8],
+    operands: &[u32],
+    operand_bytes: &[u8],
+    first: u32,
+    past: u32,
+    s: Span,
+) -> bool
+    ensures { λ r. ⌜ r ≡ operandsOk (tableOf (now (statements .entry)) (now («statement_bytes» .entry))) (tableOf (now (operands .entry)) (now («operand_bytes» .entry))) first past s ⌝ }
 {
     let end = s.past;
     let mut i = s.first;
     while i < end {
-        if !operand_ok(statements, first, past, operand_at(operands, i)) {
+        if !operand_ok(
+            statements,
+            statement_bytes,
+            first,
+            past,
+            operand_at(operands, operand_bytes, i),
+        ) {
             return false;
         }
         i += 1;

@@ -1,10 +1,11 @@
 // Whether rows are consecutive: the spans that own them, in reading order, each begin where the one before ended.
+use packed::item_at;
+use packed::span_at;
 use rules::Item;
 use rules::Span;
 use tables::STATEMENT_LENGTH;
-use tables::rows::item_at;
-use tables::rows::span_at;
 ghost use mathlib.Core.Path.{_≡_};
+ghost use Rattle.packed.specs.Packed.{table as tableOf};
 ghost use mathlib.Core.List.{[], _∷_};
 ghost use Prim.Native.Nat.{_≤_};
 ghost use Rattle.rules.specs.Rows.{_upTo_, spanAt, statementLength};
@@ -37,14 +38,21 @@ fn follow(s: Span, at: u32) -> Reached
 }
 
 // How far the spans in a column of the statements from `first` up to `end` reach.
-fn follow_statements(statements: &[u32], column: usize, first: u32, end: u32, at: u32) -> Reached
+fn follow_statements(
+    statements: &[u32],
+    statement_bytes: &[u8],
+    column: usize,
+    first: u32,
+    end: u32,
+    at: u32,
+) -> Reached
     requires { ⌜ column ≤ 8 ⌝ }
-    ensures { λ r. ⌜ Reaches at (along (λ i. spanAt statementLength (now (statements .entry)) i column) (first upTo end)) r ⌝ }
+    ensures { λ r. ⌜ Reaches at (along (λ i. spanAt statementLength (tableOf (now (statements .entry)) (now («statement_bytes» .entry))) i column) (first upTo end)) r ⌝ }
 {
     let mut reached = at;
     let mut i = first;
     while i < end {
-        let s = span_at(statements, STATEMENT_LENGTH, i, column);
+        let s = span_at(statements, statement_bytes, STATEMENT_LENGTH, i, column);
         let Reached::At(next) = follow(s, reached) else {
             return Reached::Broken;
         };
@@ -55,11 +63,12 @@ fn follow_statements(statements: &[u32], column: usize, first: u32, end: u32, at
 }
 
 // How far an item's operands reach.
-fn follow_operands(statements: &[u32], r: Item, at: u32) -> Reached
-    ensures { λ x. ⌜ Reaches at (operandSpans (now (statements .entry)) r) x ⌝ }
+fn follow_operands(statements: &[u32], statement_bytes: &[u8], r: Item, at: u32) -> Reached
+    ensures { λ x. ⌜ Reaches at (operandSpans (tableOf (now (statements .entry)) (now («statement_bytes» .entry))) r) x ⌝ }
 {
     let Reached::At(own) = follow_statements(
         statements,
+        statement_bytes,
         OPERANDS,
         r.statements.first,
         r.statements.past,
@@ -72,11 +81,12 @@ fn follow_operands(statements: &[u32], r: Item, at: u32) -> Reached
 }
 
 // How far an item's attributes reach.
-fn follow_attributes(statements: &[u32], r: Item, at: u32) -> Reached
-    ensures { λ x. ⌜ Reaches at (attributeSpans (now (statements .entry)) r) x ⌝ }
+fn follow_attributes(statements: &[u32], statement_bytes: &[u8], r: Item, at: u32) -> Reached
+    ensures { λ x. ⌜ Reaches at (attributeSpans (tableOf (now (statements .entry)) (now («statement_bytes» .entry))) r) x ⌝ }
 {
     let Reached::At(own) = follow_statements(
         statements,
+        statement_bytes,
         ATTRIBUTES,
         r.statements.first,
         r.middle,
@@ -88,17 +98,24 @@ fn follow_attributes(statements: &[u32], r: Item, at: u32) -> Reached
     let Reached::At(behind) = follow(s, own) else {
         return Reached::Broken;
     };
-    follow_statements(statements, ATTRIBUTES, r.middle, r.statements.past, behind)
+    follow_statements(
+        statements,
+        statement_bytes,
+        ATTRIBUTES,
+        r.middle,
+        r.statements.past,
+        behind,
+    )
 }
 
 // Whether n items own `count` statements, each once and in order.
-pub fn statements_owned(items: &[u32], n: u32, count: u32) -> bool
-    ensures { λ r. ⌜ r ≡ statementsOwned (now (items .entry)) n count ⌝ }
+pub fn statements_owned(items: &[u32], item_bytes: &[u8], n: u32, count: u32) -> bool
+    ensures { λ r. ⌜ r ≡ statementsOwned (tableOf (now (items .entry)) (now («item_bytes» .entry))) n count ⌝ }
 {
     let mut at = 0;
     let mut i = 0;
     while i < n {
-        let r = item_at(items, i);
+        let r = item_at(items, item_bytes, i);
         let s = r.statements;
         let Reached::At(next) = follow(s, at) else {
             return false;
@@ -110,13 +127,25 @@ pub fn statements_owned(items: &[u32], n: u32, count: u32) -> bool
 }
 
 // Whether n items and their statements own `count` operands, each once and in order.
-pub fn operands_owned(items: &[u32], statements: &[u32], n: u32, count: u32) -> bool
-    ensures { λ r. ⌜ r ≡ operandsOwned (now (items .entry)) (now (statements .entry)) n count ⌝ }
+pub fn operands_owned(
+    items: &[u32],
+    item_bytes: &[u8],
+    statements: &[u32],
+    statement_bytes: &[u8],
+    n: u32,
+    count: u32,
+) -> bool
+    ensures { λ r. ⌜ r ≡ operandsOwned (tableOf (now (items .entry)) (now («item_bytes» .entry))) (tableOf (now (statements .entry)) (now («statement_bytes» .entry))) n count ⌝ }
 {
     let mut at = 0;
     let mut i = 0;
     while i < n {
-        let Reached::At(next) = follow_operands(statements, item_at(items, i), at) else {
+        let Reached::At(next) = follow_operands(
+            statements,
+            statement_bytes,
+            item_at(items, item_bytes, i),
+            at,
+        ) else {
             return false;
         };
         at = next;
@@ -126,13 +155,25 @@ pub fn operands_owned(items: &[u32], statements: &[u32], n: u32, count: u32) -> 
 }
 
 // Whether n items and their statements own `count` attributes, each once and in order.
-pub fn attributes_owned(items: &[u32], statements: &[u32], n: u32, count: u32) -> bool
-    ensures { λ r. ⌜ r ≡ attributesOwned (now (items .entry)) (now (statements .entry)) n count ⌝ }
+pub fn attributes_owned(
+    items: &[u32],
+    item_bytes: &[u8],
+    statements: &[u32],
+    statement_bytes: &[u8],
+    n: u32,
+    count: u32,
+) -> bool
+    ensures { λ r. ⌜ r ≡ attributesOwned (tableOf (now (items .entry)) (now («item_bytes» .entry))) (tableOf (now (statements .entry)) (now («statement_bytes» .entry))) n count ⌝ }
 {
     let mut at = 0;
     let mut i = 0;
     while i < n {
-        let Reached::At(next) = follow_attributes(statements, item_at(items, i), at) else {
+        let Reached::At(next) = follow_attributes(
+            statements,
+            statement_bytes,
+            item_at(items, item_bytes, i),
+            at,
+        ) else {
             return false;
         };
         at = next;

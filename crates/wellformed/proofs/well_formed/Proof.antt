@@ -1,12 +1,15 @@
 -- `well_formed` meets its contract.
 -- Assumes nothing.
+use mathlib.Core.Path.{_∙_}
 use native.Mathlib.Omega.{arith}
 use borrow.Author.Tests.{le-leb, lt-leb}
-use borrow.Author.Needs.{needs}
 use Rattle.rules.specs.WellFormed.{wellFormed, shortText}
 use Rattle.laws.proofs.Tests.{said-not-not}
+use Rattle.wellformed.specs.Parts.{rowsOk}
 use Rattle.wellformed.proofs.Places.{counts-small}
+use Rattle.wellformed.proofs.Packed.{words-alone}
 use Rattle.wellformed.proofs.Clauses.{stops, goes, passed, failed}
+use borrow.Author.Needs.{needs}
 use Rattle.wellformed.proofs.well_formed.Statement.{statement}
 use Rattle.wellformed.proofs.well_formed.Tie as tie
 
@@ -23,37 +26,39 @@ returns-2 c =
     goes _ _ (le-leb _ _ (c .before .before .if1 .left))
     (failed _ (c .before .tables-ok .ensures) (c .if2 .taken))
 
-cast-n : tie.Need-cast-n
-cast-n c = omega (arith, counts-small _ _ _ _ _ (said-not-not (c .before .tables-ok .ensures) (c .if2 .left)) .items)
+slice-aggregate-rows-ok : tie.Need-slice-aggregate-rows-ok
+slice-aggregate-rows-ok c = search needs
 
-cast-rows-owned : tie.Need-cast-rows-owned
-cast-rows-owned c = omega (arith, counts-small _ _ _ _ _ (said-not-not (c .before .tables-ok .ensures) (c .if2 .left)) .statements)
+slice-aggregate-rows-ok-2 : tie.Need-slice-aggregate-rows-ok-2
+slice-aggregate-rows-ok-2 c = search needs
 
-cast-rows-owned-2 : tie.Need-cast-rows-owned-2
-cast-rows-owned-2 c = omega (arith, counts-small _ _ _ _ _ (said-not-not (c .before .tables-ok .ensures) (c .if2 .left)) .operands)
+slice-aggregate-rows-ok-3 : tie.Need-slice-aggregate-rows-ok-3
+slice-aggregate-rows-ok-3 c = search needs
 
-cast-rows-owned-3 : tie.Need-cast-rows-owned-3
-cast-rows-owned-3 c = omega (arith, counts-small _ _ _ _ _ (said-not-not (c .before .tables-ok .ensures) (c .if2 .left)) .attributes)
+slice-aggregate-rows-ok-4 : tie.Need-slice-aggregate-rows-ok-4
+slice-aggregate-rows-ok-4 c = search needs
 
-rows-owned-requires : tie.Need-rows-owned-requires
-rows-owned-requires c κs = search needs
+cast-rows-ok : tie.Need-cast-rows-ok
+cast-rows-ok c = omega (arith, counts-small _ _ _ _ _ (said-not-not (c .before .before .before .before .before .tables-ok .ensures) (c .before .before .before .before .if2 .left)) .items)
+
+cast-rows-ok-2 : tie.Need-cast-rows-ok-2
+cast-rows-ok-2 c = omega (arith, counts-small _ _ _ _ _ (said-not-not (c .before .before .before .before .before .tables-ok .ensures) (c .before .before .before .before .if2 .left)) .statements)
+
+cast-rows-ok-3 : tie.Need-cast-rows-ok-3
+cast-rows-ok-3 c = omega (arith, counts-small _ _ _ _ _ (said-not-not (c .before .before .before .before .before .tables-ok .ensures) (c .before .before .before .before .if2 .left)) .operands)
+
+cast-rows-ok-4 : tie.Need-cast-rows-ok-4
+cast-rows-ok-4 c = omega (arith, counts-small _ _ _ _ _ (said-not-not (c .before .before .before .before .before .tables-ok .ensures) (c .before .before .before .before .if2 .left)) .attributes)
+
+rows-ok-requires : tie.Need-rows-ok-requires
+rows-ok-requires c κs = search needs
 
 returns-3 : tie.Need-returns-3
-unfolding wellFormed shortText
+unfolding wellFormed shortText rowsOk
 returns-3 c =
-    goes _ _ (le-leb _ _ (c .before .before .before .before .if1 .left))
-    (passed (c .before .before .before .tables-ok .ensures) (c .before .before .if2 .left)
-    (failed _ (c .before .rows-owned .ensures) (c .if3 .taken)))
-
-items-ok-requires : tie.Need-items-ok-requires
-items-ok-requires c κs = search needs
-
-returns-4 : tie.Need-returns-4
-unfolding wellFormed shortText
-returns-4 c =
-    goes _ _ (le-leb _ _ (c .before .before .before .before .before .if1 .left))
-    (passed (c .before .before .before .before .tables-ok .ensures) (c .before .before .before .if2 .left)
-    (passed (c .before .before .rows-owned .ensures) (c .before .if3 .left) (c .items-ok .ensures)))
+    goes _ _ (le-leb _ _ (c .before .before .before .before .before .before .before .if1 .left))
+    (passed (c .before .before .before .before .before .before .tables-ok .ensures) (c .before .before .before .before .before .if2 .left)
+    (c .rows-ok .ensures ∙ words-alone _ _ _ _ _ _))
 
 pub well-formed-spec : {M : Type 1} → statement M
 well-formed-spec =
@@ -62,11 +67,13 @@ well-formed-spec =
     returns
     tables-ok-requires
     returns-2
-    cast-n
-    cast-rows-owned
-    cast-rows-owned-2
-    cast-rows-owned-3
-    rows-owned-requires
-    returns-3
-    items-ok-requires
-    returns-4)
+    slice-aggregate-rows-ok
+    slice-aggregate-rows-ok-2
+    slice-aggregate-rows-ok-3
+    slice-aggregate-rows-ok-4
+    cast-rows-ok
+    cast-rows-ok-2
+    cast-rows-ok-3
+    cast-rows-ok-4
+    rows-ok-requires
+    returns-3)

@@ -3,6 +3,7 @@
 use mathlib.Core.Path.{ap, _∙_}
 use Prim.Native.Nat.{_-_}
 use borrow.Author.Needs.{needs}
+use Rattle.packed.specs.Packed.{table}
 use Rattle.rules.specs.WellFormed.{attributeOk, attributesOk}
 use Rattle.rules.specs.Rows.{attributeAt}
 use Rattle.laws.proofs.Tests.{said-not, said-not-not}
@@ -11,10 +12,10 @@ use Rattle.wellformed.proofs.attribute.attributes_ok.Statement.{stateme
 use Rattle.wellformed.proofs.attribute.attributes_ok.Tie as tie
 
 abbrev Inv-loop : tie.InvT-loop
-Inv-loop text attributes lo hi end i₀ i = Passing (λ k. attributeOk text lo hi (attributeAt attributes k)) i₀ i end
+Inv-loop text attributes attributeBytes lo hi end i₀ i = Passing (λ k. attributeOk text lo hi (attributeAt (table attributes attributeBytes) k)) i₀ i end
 
 abbrev μ-loop : tie.MeasureT-loop
-μ-loop text attributes lo hi end i₀ i = end - i
+μ-loop text attributes attributeBytes lo hi end i₀ i = end - i
 
 loop-holds : tie.Need-loop-holds Inv-loop μ-loop
 loop-holds c = passing-begin

@@ -3,6 +3,7 @@
 use mathlib.Core.Path.{ap, _∙_}
 use Prim.Native.Nat.{_-_}
 use borrow.Author.Needs.{needs}
+use Rattle.packed.specs.Packed.{table}
 use Rattle.rules.specs.WellFormed.{itemOk, itemsOk}
 use Rattle.rules.specs.Rows.{itemAt}
 use Rattle.laws.proofs.Tests.{said-not, said-not-not}
@@ -11,10 +12,10 @@ use Rattle.wellformed.proofs.item.items_ok.Statement.{statement}
 use Rattle.wellformed.proofs.item.items_ok.Tie as tie
 
 abbrev Inv-loop : tie.InvT-loop
-Inv-loop text items statements operands attributes n i₀ i = Passing (λ k. itemOk text statements operands attributes (itemAt items k)) i₀ i n
+Inv-loop text items itemBytes statements statementBytes operands operandBytes attributes attributeBytes n i₀ i = Passing (λ k. itemOk text (table statements statementBytes) (table operands operandBytes) (table attributes attributeBytes) (itemAt (table items itemBytes) k)) i₀ i n
 
 abbrev μ-loop : tie.MeasureT-loop
-μ-loop text items statements operands attributes n i₀ i = n - i
+μ-loop text items itemBytes statements statementBytes operands operandBytes attributes attributeBytes n i₀ i = n - i
 
 loop-holds : tie.Need-loop-holds Inv-loop μ-loop
 loop-holds c = passing-begin

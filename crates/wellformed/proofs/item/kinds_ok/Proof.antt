@@ -3,6 +3,7 @@
 use mathlib.Core.Path.{ap, _∙_}
 use Prim.Native.Nat.{_-_}
 use borrow.Author.Needs.{needs}
+use Rattle.packed.specs.Packed.{table}
 use Rattle.rules.specs.WellFormed.{kindOk, kindsOk}
 use Rattle.rules.specs.Rows.{itemAt}
 use Rattle.laws.proofs.Tests.{said-not, said-not-not}
@@ -11,10 +12,10 @@ use Rattle.wellformed.proofs.item.kinds_ok.Statement.{statement}
 use Rattle.wellformed.proofs.item.kinds_ok.Tie as tie
 
 abbrev Inv-loop : tie.InvT-loop
-Inv-loop items n i₀ i = Passing (λ k. kindOk (itemAt items k)) i₀ i n
+Inv-loop items itemBytes n i₀ i = Passing (λ k. kindOk (itemAt (table items itemBytes) k)) i₀ i n
 
 abbrev μ-loop : tie.MeasureT-loop
-μ-loop items n i₀ i = n - i
+μ-loop items itemBytes n i₀ i = n - i
 
 loop-holds : tie.Need-loop-holds Inv-loop μ-loop
 loop-holds c = passing-begin

@@ -20,7 +20,7 @@ same-requires c κs = search needs
 
 returns : tie.Need-returns
 unfolding nameAt
-returns c = c .same .ensures ∙ ap (λ (l : List ℕ). same l (c .before .before .before .before .before .before .args .name .now)) (c .before .letters .ensures ∙ ap (lettersOf (c .before .before .before .before .before .before .args .text .now)) (c .before .before .name-at .ensures))
+returns c = c .same .ensures ∙ ap (λ (l : List ℕ). same l (c .before .before .before .before .before .before .before .args .name .now)) (c .before .letters .ensures ∙ ap (lettersOf (c .before .before .before .before .before .before .before .args .text .now)) (c .before .before .name-at .ensures))
 
 pub has-name-spec : {M : Type 1} → statement M
 has-name-spec = tie.close (tie.spec name-at-requires letters-requires same-requires returns)

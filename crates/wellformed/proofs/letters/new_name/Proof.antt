@@ -4,6 +4,7 @@ use mathlib.Core.Path.{_≡_, ap, _∙_}
 use mathlib.Core.Bool.{not}
 use Prim.Native.Nat.{_-_}
 use borrow.Author.Needs.{needs}
+use Rattle.packed.specs.Packed.{table}
 use Rattle.rules.specs.WellFormed.{newName}
 use Rattle.rules.specs.Rows.{nameAt, lettersOf}
 use Rattle.rules.specs.Bytes.{same}
@@ -13,10 +14,10 @@ use Rattle.wellformed.proofs.letters.new_name.Statement.{statement}
 use Rattle.wellformed.proofs.letters.new_name.Tie as tie
 
 abbrev Inv-loop : tie.InvT-loop
-Inv-loop text statements first i name k₀ k = (name ≡ nameAt text statements i) × (Passing (λ j. not (same (nameAt text statements j) (nameAt text statements i))) k₀ k i)
+Inv-loop text statements statementBytes first i name k₀ k = (name ≡ nameAt text (table statements statementBytes) i) × (Passing (λ j. not (same (nameAt text (table statements statementBytes) j) (nameAt text (table statements statementBytes) i))) k₀ k i)
 
 abbrev μ-loop : tie.MeasureT-loop
-μ-loop text statements first i name k₀ k = i - k
+μ-loop text statements statementBytes first i name k₀ k = i - k
 
 name-at-requires : tie.Need-name-at-requires Inv-loop μ-loop
 name-at-requires c κs = search needs
@@ -26,7 +27,7 @@ letters-requires c κs = search needs
 
 loop-holds : tie.Need-loop-holds Inv-loop μ-loop
 unfolding nameAt
-loop-holds c = (c .letters .ensures ∙ ap (lettersOf (c .before .before .before .before .args .text .now)) (c .before .name-at .ensures), passing-begin)
+loop-holds c = (c .letters .ensures ∙ ap (lettersOf (c .before .before .before .before .before .args .text .now)) (c .before .name-at .ensures), passing-begin)
 
 has-name-requires : tie.Need-has-name-requires Inv-loop μ-loop
 has-name-requires c κs = search needs

@@ -3,6 +3,7 @@
 use mathlib.Core.Path.{ap, _∙_}
 use Prim.Native.Nat.{_-_}
 use borrow.Author.Needs.{needs}
+use Rattle.packed.specs.Packed.{table}
 use Rattle.rules.specs.WellFormed.{operandOk, operandsOk}
 use Rattle.rules.specs.Rows.{operandAt}
 use Rattle.laws.proofs.Tests.{said-not, said-not-not}
@@ -11,10 +12,10 @@ use Rattle.wellformed.proofs.operand.operands_ok.Statement.{statement}
 use Rattle.wellformed.proofs.operand.operands_ok.Tie as tie
 
 abbrev Inv-loop : tie.InvT-loop
-Inv-loop statements operands first past end i₀ i = Passing (λ k. operandOk statements first past (operandAt operands k)) i₀ i end
+Inv-loop statements statementBytes operands operandBytes first past end i₀ i = Passing (λ k. operandOk (table statements statementBytes) first past (operandAt (table operands operandBytes) k)) i₀ i end
 
 abbrev μ-loop : tie.MeasureT-loop
-μ-loop statements operands first past end i₀ i = end - i
+μ-loop statements statementBytes operands operandBytes first past end i₀ i = end - i
 
 loop-holds : tie.Need-loop-holds Inv-loop μ-loop
 loop-holds c = passing-begin

@@ -4,6 +4,7 @@ use mathlib.Core.Path.{ap}
 use mathlib.Core.List.{[], _∷_}
 use Prim.Native.Nat.{_-_}
 use borrow.Author.Needs.{needs}
+use Rattle.packed.specs.Packed.{table}
 use Rattle.rules.specs.View.{each}
 use Rattle.rules.specs.Rows.{statementLength, spanAt}
 use Rattle.rules.specs.declared.Span.{Span}
@@ -13,10 +14,10 @@ use Rattle.wellformed.proofs.owned.follow_statements.Statement.{stateme
 use Rattle.wellformed.proofs.owned.follow_statements.Tie as tie
 
 abbrev Inv-loop : tie.InvT-loop
-Inv-loop statements column first end at reached₀ i₀ reached i = Following (λ k. each (λ j. spanAt statementLength statements j column) k (end - k)) i₀ reached₀ i reached
+Inv-loop statements statementBytes column first end at reached₀ i₀ reached i = Following (λ k. each (λ j. spanAt statementLength (table statements statementBytes) j column) k (end - k)) i₀ reached₀ i reached
 
 abbrev μ-loop : tie.MeasureT-loop
-μ-loop statements column first end at reached₀ i₀ reached i = end - i
+μ-loop statements statementBytes column first end at reached₀ i₀ reached i = end - i
 
 loop-holds : tie.Need-loop-holds Inv-loop μ-loop
 loop-holds c = following-begin
@@ -46,7 +47,7 @@ loop-again : tie.Need-loop-again Inv-loop μ-loop
 loop-again c = following-more (c .before .before .before .before .before .before .loop .inv) (span-step _ (search needs) (spans-as (c .before .before .before .follow .ensures) (ap (λ (s : Span). s ∷ []) (c .before .before .before .before .span-at .ensures)))) (c .before .next .given .1)
 
 returns-2 : tie.Need-returns-2 Inv-loop μ-loop
-returns-2 c = following-end (c .before .loop .inv) (each-end (λ j. spanAt statementLength (c .before .before .before .args .statements .now) j (c .before .before .before .args .column)) (c .before .loop .i) (c .before .before .before .args .end) (search needs))
+returns-2 c = following-end (c .before .loop .inv) (each-end (λ j. spanAt statementLength (table (c .before .before .before .before .args .statements .now) (c .before .before .before .before .args .statement-bytes .now)) j (c .before .before .before .before .args .column)) (c .before .loop .i) (c .before .before .before .before .args .end) (search needs))
 
 pub follow-statements-spec : {M : Type 1} → statement M
 follow-statements-spec =

@@ -3,6 +3,7 @@
 use mathlib.Core.Path.{ap}
 use Prim.Native.Nat.{_-_}
 use borrow.Author.Needs.{needs}
+use Rattle.packed.specs.Packed.{table}
 use Rattle.rules.specs.WellFormed.{operandSpans, operandsOwned}
 use Rattle.rules.specs.View.{each}
 use Rattle.rules.specs.Syntax.{flat}
@@ -13,10 +14,10 @@ use Rattle.wellformed.proofs.owned.operands_owned.Statement.{statement}
 use Rattle.wellformed.proofs.owned.operands_owned.Tie as tie
 
 abbrev Inv-loop : tie.InvT-loop
-Inv-loop items statements n count at₀ i₀ at i = Following (λ k. flat (operandSpans statements) (each (itemAt items) k (n - k))) i₀ at₀ i at
+Inv-loop items itemBytes statements statementBytes n count at₀ i₀ at i = Following (λ k. flat (operandSpans (table statements statementBytes)) (each (itemAt (table items itemBytes)) k (n - k))) i₀ at₀ i at
 
 abbrev μ-loop : tie.MeasureT-loop
-μ-loop items statements n count at₀ i₀ at i = n - i
+μ-loop items itemBytes statements statementBytes n count at₀ i₀ at i = n - i
 
 loop-holds : tie.Need-loop-holds Inv-loop μ-loop
 loop-holds c = following-begin
@@ -35,7 +36,7 @@ enum-told c = search needs
 
 returns : tie.Need-returns Inv-loop μ-loop
 unfolding operandsOwned
-returns c = broken-at (c .before .before .before .before .before .loop .inv) (ap (flat _) (each-start (itemAt (c .before .before .before .before .before .before .before .before .args .items .now)) (c .before .before .before .before .before .before .before .before .args .n))) _ (spans-step _ _ (search needs) (spans-as (c .before .before .follow-operands .ensures) (ap (operandSpans _) (c .before .before .before .item-at .ensures)))) (c .enum-told .given .1)
+returns c = broken-at (c .before .before .before .before .before .loop .inv) (ap (flat _) (each-start (itemAt (table (c .before .before .before .before .before .before .before .before .before .before .args .items .now) (c .before .before .before .before .before .before .before .before .before .before .args .item-bytes .now))) (c .before .before .before .before .before .before .before .before .before .before .args .n))) _ (spans-step _ _ (search needs) (spans-as (c .before .before .follow-operands .ensures) (ap (operandSpans _) (c .before .before .before .item-at .ensures)))) (c .enum-told .given .1)
 
 add-i : tie.Need-add-i Inv-loop μ-loop
 add-i c = search needs
@@ -48,7 +49,7 @@ loop-again c = following-more (c .before .before .before .before .before .before
 
 returns-2 : tie.Need-returns-2 Inv-loop μ-loop
 unfolding operandsOwned
-returns-2 c = owned-to (c .before .loop .inv) (ap (flat _) (each-start (itemAt (c .before .before .before .before .args .items .now)) (c .before .before .before .before .args .n))) _ (ap (flat _) (each-end (itemAt (c .before .before .before .before .args .items .now)) (c .before .loop .i) (c .before .before .before .before .args .n) (search needs)))
+returns-2 c = owned-to (c .before .loop .inv) (ap (flat _) (each-start (itemAt (table (c .before .before .before .before .before .before .args .items .now) (c .before .before .before .before .before .before .args .item-bytes .now))) (c .before .before .before .before .before .before .args .n))) _ (ap (flat _) (each-end (itemAt (table (c .before .before .before .before .before .before .args .items .now) (c .before .before .before .before .before .before .args .item-bytes .now))) (c .before .loop .i) (c .before .before .before .before .before .before .args .n) (search needs)))
 
 pub operands-owned-spec : {M : Type 1} → statement M
 operands-owned-spec =

@@ -4,6 +4,7 @@ use mathlib.Core.Path.{ap}
 use mathlib.Core.List.{[], _∷_}
 use Prim.Native.Nat.{_-_}
 use borrow.Author.Needs.{needs}
+use Rattle.packed.specs.Packed.{table}
 use Rattle.rules.specs.WellFormed.{statementsOwned}
 use Rattle.rules.specs.View.{each}
 use Rattle.rules.specs.Rows.{itemAt}
@@ -14,10 +15,10 @@ use Rattle.wellformed.proofs.owned.statements_owned.Statement.{statemen
 use Rattle.wellformed.proofs.owned.statements_owned.Tie as tie
 
 abbrev Inv-loop : tie.InvT-loop
-Inv-loop items n count at₀ i₀ at i = Following (λ k. each (λ j. itemAt items j .statements) k (n - k)) i₀ at₀ i at
+Inv-loop items itemBytes n count at₀ i₀ at i = Following (λ k. each (λ j. itemAt (table items itemBytes) j .statements) k (n - k)) i₀ at₀ i at
 
 abbrev μ-loop : tie.MeasureT-loop
-μ-loop items n count at₀ i₀ at i = n - i
+μ-loop items itemBytes n count at₀ i₀ at i = n - i
 
 loop-holds : tie.Need-loop-holds Inv-loop μ-loop
 loop-holds c = following-begin
@@ -36,7 +37,7 @@ enum-told c = search needs
 
 returns : tie.Need-returns Inv-loop μ-loop
 unfolding statementsOwned
-returns c = broken-at (c .before .before .before .before .before .before .loop .inv) (each-start (λ j. itemAt (c .before .before .before .before .before .before .before .before .args .items .now) j .statements) (c .before .before .before .before .before .before .before .before .args .n)) _ (span-step _ (search needs) (spans-as (c .before .before .follow .ensures) (ap (λ (r : Item). r .statements ∷ []) (c .before .before .before .before .item-at .ensures)))) (c .enum-told .given .1)
+returns c = broken-at (c .before .before .before .before .before .before .loop .inv) (each-start (λ j. itemAt (table (c .before .before .before .before .before .before .before .before .before .args .items .now) (c .before .before .before .before .before .before .before .before .before .args .item-bytes .now)) j .statements) (c .before .before .before .before .before .before .before .before .before .args .n)) _ (span-step _ (search needs) (spans-as (c .before .before .follow .ensures) (ap (λ (r : Item). r .statements ∷ []) (c .before .before .before .before .item-at .ensures)))) (c .enum-told .given .1)
 
 add-i : tie.Need-add-i Inv-loop μ-loop
 add-i c = search needs
@@ -49,7 +50,7 @@ loop-again c = following-more (c .before .before .before .before .before .before
 
 returns-2 : tie.Need-returns-2 Inv-loop μ-loop
 unfolding statementsOwned
-returns-2 c = owned-to (c .before .loop .inv) (each-start (λ j. itemAt (c .before .before .before .args .items .now) j .statements) (c .before .before .before .args .n)) _ (each-end (λ j. itemAt (c .before .before .before .args .items .now) j .statements) (c .before .loop .i) (c .before .before .before .args .n) (search needs))
+returns-2 c = owned-to (c .before .loop .inv) (each-start (λ j. itemAt (table (c .before .before .before .before .args .items .now) (c .before .before .before .before .args .item-bytes .now)) j .statements) (c .before .before .before .before .args .n)) _ (each-end (λ j. itemAt (table (c .before .before .before .before .args .items .now) (c .before .before .before .before .args .item-bytes .now)) j .statements) (c .before .loop .i) (c .before .before .before .before .args .n) (search needs))
 
 pub statements-owned-spec : {M : Type 1} → statement M
 statements-owned-spec =

@@ -28,7 +28,7 @@ arity-requires c κs = search needs
 cast-result : tie.Need-cast-result
 cast-result c =
     let range = instruction-range _ (said (c .before .before .is-instruction .ensures) (c .before .if1 .taken)) in
-    omega (arith, c .arity .ensures, arity-few (c .before .before .before .before .args .r .code - 1) (omega (arith, range)))
+    omega (arith, c .arity .ensures, arity-few (c .before .before .before .before .before .args .r .code - 1) (omega (arith, range)))
 
 returns : tie.Need-returns
 unfolding arity

@@ -30,7 +30,7 @@ returns-2 c =
 returns-3 : tie.Need-returns-3
 unfolding nameOk
 returns-3 c =
-    let new = c .before .before .before .before .before .before .before .before .pre (c .if3 .taken) in
+    let new = c .before .before .before .before .before .before .before .before .before .pre (c .if3 .taken) in
     picks _ _ _ (said-not-not (c .before .before .before .before .is-assignment .ensures) (c .before .before .before .if1 .left))
     (passed (c .before .before .name-in .ensures) (c .before .if2 .left) (sym new))
 

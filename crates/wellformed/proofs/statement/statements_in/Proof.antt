@@ -6,6 +6,7 @@ use Prim.Native.Nat.{_-_}
 use native.Mathlib.Omega.{arith}
 use lib.ListN.{length, length-set}
 use borrow.Author.Needs.{needs}
+use Rattle.packed.specs.Packed.{table}
 use Rattle.rules.specs.WellFormed.{statementOk, statementsOk}
 use Rattle.rules.specs.Rows.{nameAt, statementAt}
 use Rattle.laws.proofs.Tests.{said-not, said-not-not}
@@ -16,19 +17,19 @@ use Rattle.wellformed.proofs.statement.statements_in.Statement.{stateme
 use Rattle.wellformed.proofs.statement.statements_in.Tie as tie
 
 abbrev Inv-loop : tie.InvT-loop
-Inv-loop text statements operands attributes seen₀ first end i₀ seen i =
-    Passing (λ k. statementOk text statements operands attributes first k (statementAt statements k)) i₀ i end
-    × ((length seen ≡ length seen₀) × Marked text statements seen i₀ i)
+Inv-loop text statements statementBytes operands operandBytes attributes attributeBytes seen₀ first end i₀ seen i =
+    Passing (λ k. statementOk text (table statements statementBytes) (table operands operandBytes) (table attributes attributeBytes) first k (statementAt (table statements statementBytes) k)) i₀ i end
+    × ((length seen ≡ length seen₀) × Marked text (table statements statementBytes) seen i₀ i)
 
 abbrev μ-loop : tie.MeasureT-loop
-μ-loop text statements operands attributes seen₀ first end i₀ seen i = end - i
+μ-loop text statements statementBytes operands operandBytes attributes attributeBytes seen₀ first end i₀ seen i = end - i
 
 -- k is the slot of row i's name
 row-slot :
     (c : tie.After-slot Inv-loop μ-loop)
-    → let args = c .before .before .before .before .before .before .before .before .before .before .args in
+    → let args = c .before .before .before .before .before .before .before .before .before .before .before .before .before .args in
     let loop = c .before .before .before .before .loop in
-    c .slot .result ≡ slotOf (length (loop .seen)) (nameAt (args .text .now) (args .statements .now) (loop .i))
+    c .slot .result ≡ slotOf (length (loop .seen)) (nameAt (args .text .now) (table (args .statements .now) (args .statement-bytes .now)) (loop .i))
 row-slot c = slot-at _ _ _ _ (c .before .before .statement-at .ensures) (c .before .letters .ensures) (c .slot .ensures .0)
 
 loop-holds : tie.Need-loop-holds Inv-loop μ-loop
@@ -41,7 +42,7 @@ letters-requires : tie.Need-letters-requires Inv-loop μ-loop
 letters-requires c κs = search needs
 
 slot-requires : tie.Need-slot-requires Inv-loop μ-loop
-slot-requires c κs = omega (arith, c .before .before .before .loop .inv .1 .0, c .before .before .before .before .before .before .before .before .before .pre)
+slot-requires c κs = omega (arith, c .before .before .before .loop .inv .1 .0, c .before .before .before .before .before .before .before .before .before .before .before .before .pre)
 
 slice-read-fresh : tie.Need-slice-read-fresh Inv-loop μ-loop
 slice-read-fresh c = c .before .slot .ensures .1
