@@ -7,7 +7,7 @@ use Prim.Native.Nat.{ℕ, zero, suc, _+_, _-_, _≤_, _<_}
 use native.Mathlib.Nat.{add-zero}
 use native.Mathlib.Numerals.{add-one, one-add}
 use native.Mathlib.Omega.{arith}
-use borrow.Author.Tests.{leb-true, leb-false, ltb-false, le-leb, le-ltb, ne-eqb}
+use borrow.Author.Tests.{leb-true, leb-false, ltb-false, le-leb, le-ltb, lt-ltb, ne-eqb}
 use lib.Dec.{eqb, leb, ltb, eqb·suc-zero}
 use lib.ListN.{length, getD, take, drop, length-drop, drop-of-length-le}
 use lib.Seq.{drop-cons, drop-drop}
@@ -259,3 +259,9 @@ pub leap-more : (s : Stream) (l : List ℕ) (i : ℕ) (r : Leap) → i ≤ lengt
 leap-more s l i r h p =
     let t = subst (λ (x : List ℕ). Leaps s x r) (rest l i) p in
     (omega (arith, t .within, length-drop i l), t .onward ∙ ap (step.fed (r .state)) (drop-drop (r .past) i l))
+
+-- past the longest text a part changes nothing
+pub fed-full : (l : List ℕ) (s : Stream) → 65536 < s .seen → step.fed s l ≡ s
+unfolding step.stepped
+fed-full [] s h = refl
+fed-full (b ∷ l) s h = let e : step.stepped s b ≡ s = rw (lt-ltb 65536 (s .seen) h) in ap (λ (x : Stream). step.fed x l) e ∙ fed-full l s h
