@@ -15,7 +15,7 @@ use Rattle.rules.specs.Syntax.{Name}
 use Rattle.rules.specs.Printing as print
 use Rattle.rules.specs.Meaning.{Mem}
 use Rattle.rules.specs.Listing.{listedBefore, listedBetween}
-use Rattle.laws.proofs.Tails.{line-tail}
+use Rattle.proof_tails.proofs.Tails.{line-tail}
 use Rattle.bynames.proofs.Listed.{Lists}
 use Rattle.bynames.proofs.Costs.{costs, listed-cost}
 use Rattle.rules.specs.Grammar.{Token, equals, closeParen, Scope, Typing, no-type, a-type, Operand, a-value, a-constant, Further, no-further, one-further, Operands, no-operands, some-operands, AttributeInner, known-bits, power-of-two, is-negative, non-negative, non-zero, has-external-uses, sign-bits, in-range, RootAttributeInner, demanded-bits, harvested-from-use, Attributes, no-attributes, one-attribute, RightSide, a-var, a-block, a-phi, a-reservedinst, a-reservedconst, an-instruction, Statement, an-assignment, a-pc, a-blockpc, Statements, no-statements, one-statement, Infer, an-infer, Result, a-result, Cand, a-cand, Item, a-pair, a-candidate, a-left-hand-side, a-right-hand-side, Items, no-items, one-item}

@@ -10,7 +10,6 @@ pub mod Going
 pub mod Names
 pub mod Over
 pub mod Pieces
-pub mod Tails
 pub mod Ranges
 pub mod Cases
 pub mod Same

@@ -24,7 +24,7 @@ use Rattle.rules.specs.View.{along, typingOf, operandOf, attributeOf, rootAttri
 use Rattle.rules.specs.Printing.{feed, typing, operand, side, attribute, rootAttribute, attributes, line, inferLine, resultLine, candLine}
 use Rattle.wide.proofs.Decimals.{decimal-most}
 use Rattle.pieces.specs.Bounds.{Few}
-use Rattle.laws.proofs.Tails.{typing-tail, operand-tail, pair-tail, attribute-tail, root-attribute-tail, attributes-tail, side-tail}
+use Rattle.proof_tails.proofs.Tails.{typing-tail, operand-tail, pair-tail, attribute-tail, root-attribute-tail, attributes-tail, side-tail}
 use Rattle.pieces.proofs.Bounds.{either, letters-short, name-short, typing-short, operand-short, pair-short, attributes-most, root-attributes-most}
 use Rattle.pieces.proofs.Chains.{Chain, chain-whole}
 use Rattle.lines.proofs.Sides.{as-side-short}

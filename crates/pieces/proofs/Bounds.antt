@@ -19,7 +19,7 @@ use Rattle.rules.specs.View.{each, along, typingOf, asOperand, operandOf, asAtt
 use Rattle.rules.specs.Printing.{typing, operand, further, operands, attribute, rootAttribute, attributes}
 use Rattle.wide.proofs.Decimals.{decimal-most}
 use Rattle.pieces.specs.Bounds.{Few}
-use Rattle.laws.proofs.Tails.{operand-tail, attribute-tail, root-attribute-tail}
+use Rattle.proof_tails.proofs.Tails.{operand-tail, attribute-tail, root-attribute-tail}
 
 -- a choice of two is as short as both
 pub either : {A : Type 0} (f : A → List ℕ) (t : Bool) (x y : A) {m : ℕ} → length (f x) ≤ m → length (f y) ≤ m → length (f (cond t x y)) ≤ m

@@ -19,7 +19,7 @@ use Rattle.rules.specs.View.{each, along, typingOf, operandOf, attributeOf, roo
 use Rattle.rules.specs.Printing.{typing, operand, further, operands, attribute, rootAttribute, attributes}
 use Rattle.wide.proofs.Decimals.{decimal-most}
 use Rattle.pieces.specs.Bounds.{Few}
-use Rattle.laws.proofs.Tails.{operand-tail, further-tail, attribute-tail, root-attribute-tail, attributes-tail}
+use Rattle.proof_tails.proofs.Tails.{operand-tail, further-tail, attribute-tail, root-attribute-tail, attributes-tail}
 use Rattle.pieces.proofs.Bounds.{letters-short, typing-short, operand-short, further-most, attribute-short, root-attribute-short, attributes-most, root-attributes-most}
 use Rattle.pieces.proofs.Chains.{Chain, chain-none, chain-first}
 

@@ -9,7 +9,7 @@ use Rattle.rules.specs.Out.{joined}
 use Rattle.rules.specs.Printing.{lines, firstClosing, secondClosing, laid, printed, printedAll}
 use Rattle.rules.specs.Syntax.{Statement, Closing, Item}
 use Rattle.rules.specs.View.{each}
-use Rattle.laws.proofs.Tails.{lines-tail, first-closing-tail, second-closing-tail}
+use Rattle.proof_tails.proofs.Tails.{lines-tail, first-closing-tail, second-closing-tail}
 
 -- a piece before a tail is the piece alone, followed by the tail
 abbrev Tailed : (List ℕ → List ℕ) → Type 0

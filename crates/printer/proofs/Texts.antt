@@ -12,7 +12,7 @@ use Rattle.rules.specs.View.{statementOf}
 use Rattle.rules.specs.Printing.{line, lines, firstClosing, secondClosing, laid}
 use Rattle.rules.specs.Meaning.{All}
 use Rattle.pieces.specs.Bounds.{Few}
-use Rattle.laws.proofs.Tails.{line-tail, lines-tail, first-closing-tail}
+use Rattle.proof_tails.proofs.Tails.{line-tail, lines-tail, first-closing-tail}
 use Rattle.lines.proofs.Lines.{line-short}
 use Rattle.printer.specs.Rows.{linesOf}
 use Rattle.printer.specs.Contracts.{Prepared}

@@ -1,0 +1,2 @@
+-- What a print puts before a tail is the same alone, followed by the tail.
+pub mod Tails
