@@ -17,7 +17,8 @@ pub type Report = [u64; 6];
 pub type LexReport = [u64; 8];
 
 /// What stands in a report before a call.
-const UNTOLD: u64 = 0xA5C3_0FF1_5EED_1E55;
+#[cfg(ours)]
+pub(crate) const UNTOLD: u64 = 0xA5C3_0FF1_5EED_1E55;
 
 #[cfg(ours)]
 #[rustfmt::skip]
@@ -143,8 +144,7 @@ pub fn lex(state: &mut [u64], call: LexCall) -> LexReport {
             LexCall::End => peldarox_lex_end(state.as_ptr(), state.len(), told),
         }
     }
-    assert_eq!((report[0], report[9]), (UNTOLD, UNTOLD), "written beside the report");
-    std::array::from_fn(|word| report[word + 1])
+    told(report)
 }
 
 #[cfg(not(ours_lex))]
@@ -152,10 +152,10 @@ pub fn lex(_: &mut [u64], _: LexCall) -> LexReport {
     unreachable!("the library's calls that lex are not linked")
 }
 
-/// The six words of a report, which stands between two that must not change.
+/// The words of a report, which stands between two that must not change.
 #[cfg(ours)]
-fn told(report: [u64; 8]) -> Report {
-    assert_eq!((report[0], report[7]), (UNTOLD, UNTOLD), "written beside the report");
+pub(crate) fn told<const BETWEEN: usize, const WORDS: usize>(report: [u64; BETWEEN]) -> [u64; WORDS] {
+    assert_eq!((report[0], report[WORDS + 1]), (UNTOLD, UNTOLD), "written beside the report");
     std::array::from_fn(|word| report[word + 1])
 }
 

@@ -1,15 +1,13 @@
 //! The proved library's calls for rules on disk, where they are linked. include/peldarox.h has their promises.
 use crate::answer::*;
+#[cfg(ours_store)]
+use crate::library::{told, UNTOLD};
 
 /// Whether a store and a load are linked.
 pub const STORES: bool = cfg!(ours_store);
 
 /// What a store and a load report.
 pub type StoreReport = [u64; 8];
-
-/// What stands in a report before a call, and beside it.
-#[cfg(ours_store)]
-const UNTOLD: u64 = 0xA5C3_0FF1_5EED_1E55;
 
 #[cfg(ours_store)]
 #[rustfmt::skip]
@@ -60,13 +58,6 @@ pub fn load(file: &[u8], text: &mut [u8], tables: [&mut [u32]; 4]) -> StoreRepor
         )
     }
     told(report)
-}
-
-/// The eight words of a report, which stands between two that must not change.
-#[cfg(ours_store)]
-fn told(report: [u64; 10]) -> StoreReport {
-    assert_eq!((report[0], report[9]), (UNTOLD, UNTOLD), "written beside the report");
-    std::array::from_fn(|word| report[word + 1])
 }
 
 #[cfg(not(ours_store))]

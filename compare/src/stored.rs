@@ -1,4 +1,4 @@
-//! A model of rules on disk, written from document 02's A5 alone: the file of a text and its tables, and what a load of any
+//! A model of rules on disk, written from section 10 of docs/RULES.md alone: the file of a text and its tables, and what a load of any
 //! bytes comes to.
 use crate::answer::*;
 use crate::tables::Tables;

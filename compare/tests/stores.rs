@@ -1,4 +1,4 @@
-//! The judge of stores and loads passes calls that do as document 02 says, and fails each of some that slip.
+//! The judge of stores and loads passes calls that do as the rules say, and fails each of some that slip.
 use compare::answer::*;
 use compare::file_run;
 use compare::judge::Case;

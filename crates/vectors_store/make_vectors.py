@@ -1,6 +1,6 @@
 #!/usr/bin/env python3
 """Writes stdin and stdout beside this file: questions about rules on disk, and what each comes to; and those of the two programs over stored files. Files are packed here from rows written by hand after
-docs/LAYOUT.md; which of them load, and the numbers of the others, follow document 02. Nothing of the library takes part."""
+docs/LAYOUT.md; which of them load, and the numbers of the others, follow section 10 of docs/RULES.md. Nothing of the library takes part."""
 import pathlib
 import struct
 
@@ -175,7 +175,7 @@ here = pathlib.Path(__file__).parent
 (here / "stdin").write_text("".join(line + "\n" for line in questions))
 (here / "stdout").write_text("".join(line + "\n" for line in answers))
 
-# the two programs over stored files: the rule's file, and its print after document 01
+# the two programs over stored files: the rule's file, and its print
 PRINT = b"%a:i8 = var (knownBits=01x) (range=[-1,2))\n%bc = add %a, -1:i16\ninfer %bc (demandedBits=01)\nresult %a\n"
 for program, given, said in (("program_store_replacements", TEXT, RULE), ("program_print_stored", RULE, PRINT)):
     (here.parent / program / "stdin").write_bytes(given)

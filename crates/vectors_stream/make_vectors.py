@@ -1,6 +1,6 @@
 #!/usr/bin/env python3
 """Writes the files stdin and stdout of the program vectors_stream: texts, one to a line, and what the lexing of each comes to
-where it arrives in parts, as request A6 of document 02 says: `TOKENS NUMBER PLACE`.
+where it arrives in parts, as section 11 of docs/RULES.md says: `TOKENS NUMBER PLACE`.
 
 The model below was written for this purpose alone, from documents 01 and 02, and not from the definitions or the code of this
 repository. It lexes a whole text by regular expressions and lets Python's own decoder judge UTF-8; it knows no parts, since the
@@ -69,7 +69,7 @@ def spelt(text):
 
 
 def settled():
-    """The request's worked examples, and document 01's."""
+    """Worked examples of the request, and settled ones."""
     yield from [b"", b"%a = var", b"%", b"-1", b"-", b"knownBits", b"knownBitsx", b"knownBits =0", b"knownBits=", b"knownBits=0", b"; \xC3",
                 b"\xE2\x80\x83", b"\xE2\x80", b"\xC3\xA9", b"\xE2", b"%a = var (knownBits =0)", b"%a = var (knownBits=)", b"12knownBits=0",
                 b"knownBits.", b"knownBit", b"knownBit =0", b"kknownBits=0", b"KnownBits=0", b"knownBits=2", b"knownBits=x1 0",

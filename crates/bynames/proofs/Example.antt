@@ -1,4 +1,4 @@
--- Document 01's settled examples as the reader by names takes them, and its whole print, computed.
+-- Settled examples of docs/RULES.md as the reader by names takes them, and its whole print, computed.
 -- Assumes nothing.
 use mathlib.Core.Path.{_≡_, refl}
 use mathlib.Core.Bool.{Bool, true, false, _&&_, Bool·beq}

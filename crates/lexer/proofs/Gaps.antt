@@ -22,7 +22,7 @@ low-if b true u p q e = let h = leb-true b 13 (and-right (leb 9 b) (leb b 13) p)
 low-if b false true p q e = let h = eqb-true b 32 q in omega arith
 low-if b false false p q e = absurd (false≢true e)
 
-low : (b : ℕ) → blank b ≡ true → b ≤ 127
+pub low : (b : ℕ) → blank b ≡ true → b ≤ 127
 unfolding blank inside
 low b e = low-if b (leb 9 b && leb b 13) (eqb b 32) refl refl e
 

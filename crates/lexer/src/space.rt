@@ -1,4 +1,4 @@
-// White space and comments. An ASCII byte is decided by two comparisons; only other characters are looked up in the table of ranges.
+// White space and comments. Which characters are white space stands in a table of ranges; of an ASCII byte no code point has to be put together.
 use rules::Range;
 ghost use mathlib.Core.Path.{_≡_};
 ghost use Rattle.rules.specs.Bytes.{inside};
@@ -75,7 +75,10 @@ pub fn is_white(c: u32) -> bool
 pub fn is_blank(b: u8) -> bool
     ensures { λ r. ⌜ r ≡ blank b ⌝ }
 {
-    scan::inside(9, 13, b) || b == b' '
+    if 127 < b {
+        return false;
+    }
+    is_white(b as u32)
 }
 
 // The bytes of a white-space character at the front of s; 0 where there is none.

@@ -1,4 +1,4 @@
--- Demand 1: every call, whatever is lent, ends with an answer of document 01's table, with its place, and leaves lent memory as written there.
+-- Demand 1: every call, whatever is lent, ends with an answer of the table in docs/RULES.md, with its place, and leaves lent memory as written there.
 -- `ReadEnd` has the ways in which a read ends, `PrintEnd` those of a print, `NameEnd` those of a name (specs/Ends).
 -- That the public calls end, and with what the contracts say, is theirs; that no two answers satisfy these is `Unique` of crate peldarox.
 -- Assumes nothing.

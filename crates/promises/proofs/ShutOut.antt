@@ -1,4 +1,4 @@
--- The wrong programs that document 01 names under "What the contracts are held to". No program (specs/Programs) is one of these.
+-- The wrong programs that the contracts are held to rule out (docs/PROMISES.md lists them). No program (specs/Programs) is one of these.
 -- Assumes nothing.
 use Prim.Native.Nat.{ℕ}
 use mathlib.Core.Path.{_≡_, refl, sym, ap, _∙_, subst}

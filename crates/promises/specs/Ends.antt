@@ -1,4 +1,4 @@
--- The ways in which a call ends, by its report: a line of document 01's table to each, with its place and all lent memory afterwards.
+-- The ways in which a call ends, by its report: a line of the table in docs/RULES.md to each, with its place and all lent memory afterwards.
 -- Assumes nothing.
 use Prim.Native.Nat.{ℕ, _+_, _-_, _*_, _≤_, _<_}
 use mathlib.Core.Path.{_≡_}

@@ -1,4 +1,4 @@
--- What a store keeps, in the words of document 02's A5, over the contracts of the public calls: what was written loads as the same text, counts and rows; an accepted file is
+-- What a store keeps, over the contracts of the public calls: what was written loads as the same text, counts and rows; an accepted file is
 -- exactly what the writer writes of what was loaded; and what is loaded prints alike. Whatever output, text and tables were lent, as long as they are enough.
 -- Assumes nothing.
 use Prim.Native.Nat.{ℕ, _*_, _/_, _≤_}

@@ -118,7 +118,7 @@ printReport n = 0 ∷ n ∷ 0 ∷ 0 ∷ 0 ∷ 0 ∷ []
 abbrev pub refusalReport : ℕ → ℕ → List ℕ
 refusalReport n p = n ∷ p ∷ 0 ∷ 0 ∷ 0 ∷ 0 ∷ []
 
--- document 01's number and values for each answer
+-- the number and the values of each answer, as the table of section 4 has them
 unfoldable pub reportOf : Answer → List ℕ
 reportOf (answer.Read i s o a) = readReport i s o a
 reportOf (answer.Printed n) = printReport n

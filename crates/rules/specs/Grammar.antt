@@ -1,5 +1,5 @@
--- The grammar: which lists of tokens are sentences, and the items that each stands for. It has the rules of the crate's grammar comment with the corrections of
--- document 01, each told in words above it, and says with each which names are in scope and which numbers fit.
+-- Sections 2 and 3 of docs/RULES.md. The grammar: which lists of tokens are sentences, and the items that each stands for. It has the rules of the crate's grammar comment
+-- with the corrections that section 2 lists, each told in words above it, and says with each which names are in scope and which numbers fit.
 -- Nothing here looks ahead, and nothing is said of an order in which a text is read.
 -- Assumes nothing.
 use mathlib.Core.Path.{_≡_}

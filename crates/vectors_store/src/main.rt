@@ -1,4 +1,4 @@
-// Answers questions about rules on disk, one to a line of standard input. make_vectors.py writes them, and what each comes to, from document 02 alone.
+// Answers questions about rules on disk, one to a line of standard input. make_vectors.py writes them, and what each comes to, from docs/RULES.md, section 10, alone.
 //
 // `L TEXT ITEMS STATEMENTS OPERANDS ATTRIBUTES HEX` loads the file of the hex digits into so many bytes of text and words of each table: said is the number and
 // the place; or 0, the bytes of text, the four counts, and what a store of what was loaded into 1,000 bytes comes to. `S OUTPUT HEX` reads replacements into 15 rows of
