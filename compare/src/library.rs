@@ -135,13 +135,13 @@ pub fn lex(state: &mut [u64], call: LexCall) -> LexReport {
         fn peldarox_lex_end(state: *const u64, state_words: usize, report: *mut u64);
     }
     let mut report = [UNTOLD; 10];
-    let told = report[1..].as_mut_ptr();
+    let words = report[1..].as_mut_ptr();
     // SAFETY: every pointer is to as many words or bytes as the length behind it says; report is to nine words.
     unsafe {
         match call {
-            LexCall::Start => peldarox_lex_start(state.as_mut_ptr(), state.len(), told),
-            LexCall::Part(part) => peldarox_lex_part(state.as_mut_ptr(), state.len(), part.as_ptr(), part.len(), told),
-            LexCall::End => peldarox_lex_end(state.as_ptr(), state.len(), told),
+            LexCall::Start => peldarox_lex_start(state.as_mut_ptr(), state.len(), words),
+            LexCall::Part(part) => peldarox_lex_part(state.as_mut_ptr(), state.len(), part.as_ptr(), part.len(), words),
+            LexCall::End => peldarox_lex_end(state.as_ptr(), state.len(), words),
         }
     }
     told(report)
