@@ -6,7 +6,7 @@ use libc::{STDERR_FILENO, STDIN_FILENO, STDOUT_FILENO};
 use rules::Answer;
 
 // How many bytes were read, and whether it was a failure that ended reading.
-#[derive(Drop)]
+#[derive(Clone, Copy)]
 pub struct Input {
     pub bytes: usize,
     pub failed: bool,

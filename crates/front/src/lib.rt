@@ -3,6 +3,8 @@
 // A program has its stack and nothing else, some 8 MB, and a row of each table for each byte would take 9.7. Fewer rows are proved to be enough: an item has two
 // tokens of its own, a statement or an attribute three, an operand one (reading, Progress). So 7 never comes; neither does 9, as 3S + O + 1 is at most
 // twice the text's bytes and one; nor 10, as a print is at most twice as long as its text (grammar, PrintedLength). Never has it proved.
+#![tactic(auto)]
+
 pub mod console;
 
 ghost use Rattle.std.specs.Prelude.{◌≡◌, length};

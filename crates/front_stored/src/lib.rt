@@ -2,6 +2,8 @@
 //
 // A program has its stack and nothing else, some 8 MB. The tables are as long as those of `front`, which is enough for any text. The file of a text of n bytes has at
 // most n + 100 n / 3 + 44 bytes, 2,250,113 for the longest text (Never has it proved): so many are lent to a store, and so many are read of a file.
+#![tactic(auto)]
+
 mod printing;
 mod storing;
 

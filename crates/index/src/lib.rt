@@ -1,6 +1,8 @@
 // Names looked for among the statement rows of an item: the newest rows one by one, those before them by an index. In the index each name has a slot by its letters, each slot
 // a head, which leads to the last row held that has the slot, and each row a link, which leads to the row before it that has the same slot. Nothing is cleared between items:
 // rows below the item's first are passed by. Any words may be lent as an index; what is found in one that holds what was entered is what a search along the rows finds.
+#![tactic(auto)]
+
 ghost use Rattle.std.specs.Prelude.{◌≡◌, ℕ, ◌+◌, ◌-◌, ◌≤◌, ◌<◌, max, length, get_or};
 ghost use Rattle.rules.specs.Reading.{find_row};
 ghost use Rattle.index.specs.Slots.{slot_of, slots_in};

@@ -1,4 +1,6 @@
 // Tells of each line of standard input whether it is an instruction's name, a keyword or neither.
+#![tactic(auto)]
+
 use libc::{STDIN_FILENO, STDOUT_FILENO};
 
 fn main() {

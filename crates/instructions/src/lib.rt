@@ -1,5 +1,7 @@
 // The words that a text can hold: the instructions, whose names and arities are constant tables, and the other keywords.
 // A word is looked for among those of its length and first letter; how it is looked for shows nowhere outside.
+#![tactic(auto)]
+
 mod keywords;
 mod search;
 mod table;

@@ -1,6 +1,8 @@
 // Reads lines and writes a line about each: of an integer its decimal, what it is in a field of 32 and of 8 bits, its four words, and how it
 // compares with the integer before it; of a type, a line that begins with 'i', its width; of any other line that it is refused.
 // The lines of stdin and the answers of stdout are made by make_vectors.py, which knows nothing of this code.
+#![tactic(auto)]
+
 use libc::{STDIN_FILENO, STDOUT_FILENO};
 use rules::Words;
 use wide::{Fitted, Parsed, Wide};

@@ -1,4 +1,6 @@
 // The lexer: the next token of a text at or after a cursor. The text is lent to each call, and the cursor is a value.
+#![tactic(auto)]
+
 pub mod space;
 pub mod token;
 

@@ -1,5 +1,7 @@
 // The listing: each statement after all it refers to, depth first. A walk hands out one row after another, so that measuring, writing and counting go the same way.
 // The work area has a mark for each of the counted rows and then the stack, 3S + O + 1 words in all; marks are kept from root to root.
+#![tactic(auto)]
+
 pub mod marks;
 mod stack;
 
@@ -9,13 +11,13 @@ ghost use Rattle.listing.specs.Machine.{trace as tracing};
 ghost use Rattle.listing.specs.Work.{has_mark, entry_of, Ready, Begun, Traced, Advanced};
 
 // Where a walk stands: how many words its stack has.
-#[derive(Drop)]
+#[derive(Clone, Copy)]
 pub struct Walk {
     pub depth: usize,
 }
 
 // The next row of a listing and the walk from there on, or that the listing is at its end.
-#[derive(Drop)]
+#[derive(Clone, Copy)]
 pub enum Step {
     Row(u32, Walk),
     Done,

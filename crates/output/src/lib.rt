@@ -1,5 +1,7 @@
 // Writing into an output that is lent. Every writer is lent the unwritten rest of the output, writes there if there is room, and
 // answers its whole length whether there is or not: on an empty output it measures.
+#![tactic(auto)]
+
 ghost use Rattle.std.specs.Prelude.{◌≡◌, min};
 ghost use Rattle.rules.specs.Out.{Wrote};
 

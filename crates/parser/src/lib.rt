@@ -1,5 +1,7 @@
 // The token helpers of the parser, in the order of the crate's `impl Parser`, and the search for a name.
 // Each is handed a state and hands one back; a token that was looked at is the state's `ahead`, one that was taken its `last`.
+#![tactic(auto)]
+
 pub mod names;
 
 ghost use Rattle.std.specs.Prelude.{◌≡◌, List, ℕ, ◌-◌, ◌≤◌, ◌<◌, length};
@@ -17,21 +19,21 @@ use tables::{State, letters, nothing, refuse};
 use wide::{Fitted, Parsed, Wide};
 
 // A state and an integer.
-#[derive(Drop)]
+#[derive(Clone, Copy)]
 pub struct Integer {
     pub state: State,
     pub value: Wide,
 }
 
 // A state and a number of 32 bits: a field, a width or a row.
-#[derive(Drop)]
+#[derive(Clone, Copy)]
 pub struct Number {
     pub state: State,
     pub value: u32,
 }
 
 // What stands next in a text: a token, or what is at fault and where. Its fields are plain words: a token is copied field by field, as it was stored.
-#[derive(Drop)]
+#[derive(Clone, Copy)]
 struct Next {
     fault: u32,
     kind: u32,

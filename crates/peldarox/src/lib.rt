@@ -1,5 +1,7 @@
 // The public calls. Nothing is asked of a caller: whatever is lent, each call ends with an answer of the table in docs/RULES.md, and its contract determines that
 // answer and every lent word. exports.rt, lex_exports.rt and stored_exports.rt have the same calls for C.
+#![tactic(auto)]
+
 pub mod exports;
 pub mod lex_exports;
 pub mod stored_exports;

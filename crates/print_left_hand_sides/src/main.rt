@@ -1,4 +1,6 @@
 // Prints the left-hand sides that standard input lists.
+#![tactic(auto)]
+
 use rules::Entry;
 
 fn main() {

@@ -1,6 +1,8 @@
 // Prints items: for each the lines of the statements that its roots reach, every statement after all it refers to, around its closing lines.
 // Every writer is lent the unwritten rest of the output, writes there if there is room, and answers its whole length whether there is or not: on an empty
 // output it measures. Marks in the work area say which statements of an item are listed already; they are taken away at its end.
+#![tactic(auto)]
+
 mod closing;
 mod listed;
 

@@ -1,4 +1,6 @@
 // The calls over lent tables, which ask nothing of a caller: the print of items, and the name of a statement.
+#![tactic(auto)]
+
 mod naming;
 mod printing;
 

@@ -1,5 +1,7 @@
 // Lexes standard input as it comes, part after part as `read` gives them, in memory of a fixed size, and prints the report in a line:
 // `tokens N`, or `refused NUMBER at PLACE after N tokens`. A failure is said on standard error.
+#![tactic(auto)]
+
 ghost use Rattle.std.specs.Prelude.{◌≡◌, length};
 ghost use Rattle.io.specs.Counts.{IsPrefixLen};
 
@@ -8,14 +10,14 @@ use rules::LexReport;
 use stream::Stream;
 
 // How many bytes a read brought, and whether it failed.
-#[derive(Drop)]
+#[derive(Clone, Copy)]
 struct Got {
     bytes: usize,
     failed: bool,
 }
 
 // Where the lexer stands at the end of what was read, and whether it was a failure that ended reading.
-#[derive(Drop)]
+#[derive(Clone, Copy)]
 struct Fed {
     state: Stream,
     failed: bool,

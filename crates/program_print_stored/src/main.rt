@@ -1,4 +1,6 @@
 // Prints the stored file that standard input is.
+#![tactic(auto)]
+
 fn main() {
     front_stored::print();
 }

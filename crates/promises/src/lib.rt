@@ -1,1 +1,2 @@
 // What was demanded, as theorems over the contracts of the public calls. No code.
+#![tactic(auto)]

@@ -13,7 +13,7 @@ use tables::rows::number_at;
 use tables::{State, refuse};
 
 // A state and a right side.
-#[derive(Drop)]
+#[derive(Clone, Copy)]
 pub struct Sided {
     pub state: State,
     pub side: Side,

@@ -1,5 +1,7 @@
 // Replays a sample of the comparison with the Rust crate. Each line of standard input is a question, and what is said of it is one line: reads.rt has
 // the readings, prints.rt the prints and names.
+#![tactic(auto)]
+
 mod prints;
 mod reads;
 

@@ -1,25 +1,27 @@
 // The words that the definitions of specs/ and the code share. Types and constants alone: the rules themselves stand in specs/.
+#![tactic(auto)]
+
 pub mod code;
 pub mod fault;
 pub mod keyword;
 pub mod kind;
 
 // The numbers from `lo` up to and with `hi`.
-#[derive(Drop)]
+#[derive(Clone, Copy)]
 pub struct Range {
     pub lo: u32,
     pub hi: u32,
 }
 
 // What a check of a whole text for UTF-8 finds: at fault is the first byte of the first bad sequence.
-#[derive(Drop)]
+#[derive(Clone, Copy)]
 pub enum Checked {
     WellFormed,
     IllFormed(usize),
 }
 
 // What stands at the front of a text that begins with neither white space nor a comment.
-#[derive(Drop)]
+#[derive(Clone, Copy)]
 pub enum Front {
     // A token's kind and how many bytes it has.
     Spelt(u32, usize),
@@ -30,7 +32,7 @@ pub enum Front {
 }
 
 // A token: its kind, its first byte, and the byte past its last.
-#[derive(Drop)]
+#[derive(Clone, Copy)]
 pub struct Token {
     pub kind: u32,
     pub first: usize,
@@ -38,13 +40,13 @@ pub struct Token {
 }
 
 // A place in a text. The text itself is lent to each call.
-#[derive(Drop)]
+#[derive(Clone, Copy)]
 pub struct Cursor {
     pub at: usize,
 }
 
 // What the lexer finds at or after a cursor: a token, the end of the text, or a refusal at a place.
-#[derive(Drop)]
+#[derive(Clone, Copy)]
 pub enum Lexed {
     Found(Token),
     End,
@@ -52,7 +54,7 @@ pub enum Lexed {
 }
 
 // What a lexing came to: how many tokens stand before the first refusal, its number, 0 for none, and its place.
-#[derive(Drop)]
+#[derive(Clone, Copy)]
 pub struct LexReport {
     pub tokens: u32,
     pub number: u32,
@@ -60,7 +62,7 @@ pub struct LexReport {
 }
 
 // A token as the reader keeps it, in the 32 bits of a row's word: its kind, 0 for no token, its first byte and the byte past its last.
-#[derive(Drop)]
+#[derive(Clone, Copy)]
 pub struct Spot {
     pub kind: u32,
     pub first: u32,
@@ -68,14 +70,14 @@ pub struct Spot {
 }
 
 // From the first up to the one past the last: bytes of the text, or rows of a table.
-#[derive(Drop)]
+#[derive(Clone, Copy)]
 pub struct Span {
     pub first: u32,
     pub past: u32,
 }
 
 // 128 bits as four words, the highest first.
-#[derive(Drop)]
+#[derive(Clone, Copy)]
 pub struct Words {
     pub a: u32,
     pub b: u32,
@@ -84,7 +86,7 @@ pub struct Words {
 }
 
 // The four rows, as docs/LAYOUT.md has them.
-#[derive(Drop)]
+#[derive(Clone, Copy)]
 pub struct Item {
     pub kind: u32,
     pub statements: Span,
@@ -94,7 +96,7 @@ pub struct Item {
     pub attributes: Span,
 }
 
-#[derive(Drop)]
+#[derive(Clone, Copy)]
 pub struct Statement {
     pub code: u32,
     pub name: Span,
@@ -105,7 +107,7 @@ pub struct Statement {
     pub attributes: Span,
 }
 
-#[derive(Drop)]
+#[derive(Clone, Copy)]
 pub struct Operand {
     pub code: u32,
     pub row: u32,
@@ -113,7 +115,7 @@ pub struct Operand {
     pub bits: Words,
 }
 
-#[derive(Drop)]
+#[derive(Clone, Copy)]
 pub struct Attribute {
     pub code: u32,
     pub pattern: Span,
@@ -122,14 +124,14 @@ pub struct Attribute {
 }
 
 // A statement's row, or that there is none.
-#[derive(Drop)]
+#[derive(Clone, Copy)]
 pub enum Row {
     At(u32),
     Missing,
 }
 
 // What a right side says, but for its operands.
-#[derive(Drop)]
+#[derive(Clone, Copy)]
 pub struct Side {
     pub code: u32,
     pub number: u32,
@@ -137,7 +139,7 @@ pub struct Side {
 }
 
 // The three entry points.
-#[derive(Drop)]
+#[derive(Clone, Copy)]
 pub enum Entry {
     Replacements,
     LeftHandSides,
@@ -145,7 +147,7 @@ pub enum Entry {
 }
 
 // What a public call answers: how many rows of each table a read left, how many bytes a print wrote, or the number of a refusal with its place.
-#[derive(Drop)]
+#[derive(Clone, Copy)]
 pub enum Answer {
     Read {
         items: u32,
@@ -161,7 +163,7 @@ pub enum Answer {
 }
 
 // The bytes of a stored file's five parts, as its trailer tells them.
-#[derive(Drop)]
+#[derive(Clone, Copy)]
 pub struct Lengths {
     pub text: u32,
     pub items: u32,
@@ -171,14 +173,14 @@ pub struct Lengths {
 }
 
 // What a store answers: how many bytes it wrote, or the number of a refusal with its place.
-#[derive(Drop)]
+#[derive(Clone, Copy)]
 pub enum StoreAnswer {
     Stored(u64),
     Refused { number: u32, place: u64 },
 }
 
 // What a load answers: how many bytes of text and rows of each table it left, or the number of a refusal with its place.
-#[derive(Drop)]
+#[derive(Clone, Copy)]
 pub enum LoadAnswer {
     Loaded {
         text: u64,

@@ -1,4 +1,6 @@
 // Tests on bytes, scanners that count how many bytes at the front of a part pass one, and the comparison of two parts.
+#![tactic(auto)]
+
 ghost use Rattle.std.specs.Prelude.{◌≡◌};
 ghost use Rattle.rules.specs.Bytes.{inside as inside_of, digit, letter, name_byte, pattern_byte, line_byte, count, same as same_bytes};
 

@@ -9,14 +9,14 @@ use crate::state::{between, more};
 use crate::{Mode, Sequence, Stream};
 
 // How many bytes were passed over, and how many tokens are behind them.
-#[derive(Drop)]
+#[derive(Clone, Copy)]
 pub struct Skimmed {
     pub past: usize,
     pub count: u32,
 }
 
 // A state, and how many bytes of a part led to it.
-#[derive(Drop)]
+#[derive(Clone, Copy)]
 pub struct Leap {
     pub state: Stream,
     pub past: usize,

@@ -8,7 +8,7 @@ use crate::{Ahead, Lexing, Mode, Sequence, Stream};
 pub const WORDS: usize = 14;
 
 // Where a machine stands, as numbers: in which of its states, and what that state holds.
-#[derive(Drop)]
+#[derive(Clone, Copy)]
 pub struct Numbers {
     pub tag: u64,
     pub first: u64,

@@ -1,5 +1,7 @@
 // The reader's state, and its four lent tables: claims through one row writer, rows by value (`rows`), clearing.
 // A refusal stays in the state: whoever is handed a refused state hands it back refused alike, so the rules of the grammar are plain sequences of calls.
+#![tactic(auto)]
+
 pub mod rows;
 
 ghost use Rattle.std.specs.Prelude.{◌≡◌, List, ℕ, ◌≤◌, ◌<◌, length, take};
@@ -22,7 +24,7 @@ pub const OPERAND_LENGTH: usize = 7;
 pub const ATTRIBUTE_LENGTH: usize = 11;
 
 // Where the reader stands, and how many rows are claimed. Where something is at fault, `last` is the token at fault.
-#[derive(Drop)]
+#[derive(Clone, Copy)]
 pub struct State {
     pub fault: u32,
     pub at: u32,

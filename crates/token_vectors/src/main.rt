@@ -1,5 +1,7 @@
 // Prints the tokens of each line of standard input: `kind first past;` for each, then `end` or `refused PLACE`.
 // A line spells a text: `\xHH` is a byte by its hexadecimal digits in capitals, any other byte is itself.
+#![tactic(auto)]
+
 mod spelling;
 
 ghost use Rattle.std.specs.Prelude.{◌≤◌, ◌<◌, length};

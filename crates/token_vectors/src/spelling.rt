@@ -3,7 +3,7 @@ ghost use Rattle.std.specs.Prelude.{◌≤◌, ◌<◌, length};
 ghost use Rattle.io.specs.Counts.{IsPrefixLen};
 
 // A byte, and how many bytes of a line spell it.
-#[derive(Drop)]
+#[derive(Clone, Copy)]
 struct Spelt {
     byte: u8,
     len: usize,

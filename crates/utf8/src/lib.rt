@@ -1,4 +1,6 @@
 // Well-formed UTF-8: the sequence at the front of a text, its code point, and the check of a whole text.
+#![tactic(auto)]
+
 ghost use Rattle.std.specs.Prelude.{max, ◌≡◌, cond, [], ◌∷◌, drop, get_or};
 ghost use Rattle.rules.specs.Bytes.{count};
 ghost use Rattle.rules.specs.Utf8.{◌to◌, lies, seq_len, code_point, checked};

@@ -1,5 +1,7 @@
 // Reads tests from standard input, a line each: bytes as hex digits, at most 64 bytes. Says of each line `ok` where the bytes are well-formed UTF-8, and
 // `bad` with the place of the first bad sequence where they are not. make_vectors.py writes the lines, and what another decoder says of them.
+#![tactic(auto)]
+
 ghost use Rattle.std.specs.Prelude.{◌<◌};
 ghost use Rattle.io.specs.Counts.{IsPrefixLen};
 

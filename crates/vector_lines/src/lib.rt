@@ -1,11 +1,13 @@
 // The fields of a line that a program is asked by, and what it writes: numbers in decimal, bytes in hex digits.
+#![tactic(auto)]
+
 ghost use Rattle.std.specs.Prelude.{◌≤◌, ◌<◌, length};
 ghost use Rattle.io.specs.Counts.{IsPrefixLen};
 
 use libc::STDOUT_FILENO;
 
 // A number of a line, and where the next field begins.
-#[derive(Drop)]
+#[derive(Clone, Copy)]
 pub struct Field {
     pub value: usize,
     pub past: usize,

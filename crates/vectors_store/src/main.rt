@@ -3,6 +3,8 @@
 // `L TEXT ITEMS STATEMENTS OPERANDS ATTRIBUTES HEX` loads the file of the hex digits into so many bytes of text and words of each table: said is the number and
 // the place; or 0, the bytes of text, the four counts, and what a store of what was loaded into 1,000 bytes comes to. `S OUTPUT HEX` reads replacements into 15 rows of
 // each table and stores them into so many bytes: said is the number and the place; or 0, the bytes written, and the file in hex digits.
+#![tactic(auto)]
+
 mod loads;
 mod stores;
 

@@ -1,5 +1,7 @@
 // Lexes the text that each line of standard input spells, whole, byte by byte and in other cuts, and prints `TOKENS NUMBER PLACE`, or that the cuts differ.
 // A text of up to 256 bytes is cut in two at every place; a longer one into parts of several lengths.
+#![tactic(auto)]
+
 mod spelling;
 
 ghost use Rattle.std.specs.Prelude.{◌≤◌, length};

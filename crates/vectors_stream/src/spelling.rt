@@ -4,7 +4,7 @@ ghost use Rattle.std.specs.Prelude.{◌≤◌, ◌<◌, ◌≡◌, length};
 ghost use Rattle.io.specs.Counts.{IsPrefixLen};
 
 // A byte, how often it stands, and how many bytes of a line spell it.
-#[derive(Drop)]
+#[derive(Clone, Copy)]
 struct Spelt {
     byte: u8,
     times: usize,

@@ -1,5 +1,7 @@
 // Whether lent tables are well formed, by section 6 of docs/RULES.md: any text, any words and any counts may be lent.
 // Each function is a clause of the definition, and tests in the definition's order, so that no loop goes along rows that are not there.
+#![tactic(auto)]
+
 mod attribute;
 mod item;
 mod letters;

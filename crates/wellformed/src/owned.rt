@@ -16,7 +16,7 @@ const OPERANDS: usize = 6;
 const ATTRIBUTES: usize = 8;
 
 // How far consecutive spans reach, or that one of them does not begin where the one before ended.
-#[derive(Drop)]
+#[derive(Clone, Copy)]
 pub enum Reached {
     At(u32),
     Broken,

@@ -1,5 +1,7 @@
 // Signed integers of 128 bits: read from digits, written in decimal, compared, and fitted to narrower fields.
 // An integer is its two's complement in two halves of 64 bits. Every contract speaks of the bits as one number below 2^128.
+#![tactic(auto)]
+
 mod reading;
 mod writing;
 
@@ -12,21 +14,21 @@ pub use reading::type_width;
 use rules::Words;
 
 // An integer from -2^127 to 2^127 - 1.
-#[derive(Drop)]
+#[derive(Clone, Copy)]
 pub struct Wide {
     pub hi: u64,
     pub lo: u64,
 }
 
 // What digits read as.
-#[derive(Drop)]
+#[derive(Clone, Copy)]
 pub enum Parsed {
     Value(Wide),
     Malformed,
 }
 
 // What an integer is in a field of at most 32 bits, unsigned.
-#[derive(Drop)]
+#[derive(Clone, Copy)]
 pub enum Fitted {
     Fits(u32),
     Outside,

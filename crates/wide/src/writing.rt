@@ -7,7 +7,7 @@ ghost use Rattle.rules.specs.Out.{Wrote};
 use crate::{WORD, Wide};
 
 // All digits but the last, as bits, and the last.
-#[derive(Drop)]
+#[derive(Clone, Copy)]
 struct Divided {
     quotient: Wide,
     rest: u8,

@@ -1,0 +1,11 @@
+-- `listing::advance` meets its contract.
+-- Assumes nothing.
+use Rattle.listing.specs.Work.{left}
+use Rattle.listing.proofs.Steps.{Going}
+use Rattle.listing.proofs.advance.Given as goal
+
+abbrev pub invariant-loop-depth : goal.invariant-loop-depth
+invariant-loop-depth l = Going l.statements l.operands l.rows l.initial.work l.initial.depth l.work l.depth
+
+abbrev pub decreases-loop-depth : goal.decreases-loop-depth
+decreases-loop-depth l = left l.statements l.rows l.work l.depth

@@ -1,0 +1,31 @@
+-- `tables::rows::span_at` meets its contract. Past the table every word is 0.
+-- Assumes nothing.
+use mathlib.Core.Path.{◌≡◌, ap}
+use Prim.Native.Nat.{ℕ, ◌+◌, ◌*◌}
+use native.Mathlib.Nat.{add_assoc}
+use native.Mathlib.Omega.{arith}
+use lib.ListN.{get_or, get_or-eq_default}
+use borrow.Author.Rules.{rules}
+use Rattle.rules.specs.Rows.{◌up_to◌, field}
+use Rattle.tables.proofs.Fields.{row_fits}
+use Rattle.tables.proofs.rows.span_at.Goals as goal
+
+pub overflow_mul-at : goal.overflow_mul-at
+overflow_mul-at c = omega (arith, row_fits c.args.i c.args.length (search rules) c.requires.0)
+
+pub overflow_add-at : goal.overflow_add-at
+overflow_add-at c = omega (arith, row_fits c.args.i c.args.length (search rules) c.requires.0)
+
+pub overflow_add-at-2 : goal.overflow_add-at-2
+overflow_add-at-2 c = omega (arith, row_fits c.args.i c.args.length (search rules) c.requires.0)
+
+pub returns-then-at-table : goal.returns-then-at-table
+returns-then-at-table c =
+    let a = c.args in
+    ap (λ (at : ℕ). field a.length a.table.now a.i a.j up_to get_or a.table.now at 0) (add_assoc (a.i * a.length) a.j 1)
+
+pub returns : goal.returns
+returns c =
+    let a = c.args in
+    let none : field a.length a.table.now a.i (a.j + 1) ≡ 0 = get_or-eq_default a.table.now 0 {n = a.i * a.length + (a.j + 1)} (omega arith) in
+    cc (c.word_at.ensures, none)
