@@ -29,8 +29,9 @@ overflow_add-depth c =
 
 pub push_references-requires : goal.push_references-requires
 push_references-requires c =
+    let room : c.args.rows + c.args.depth + (size c.args.statements.now c.args.row + 2) < length c.args.work.now = trace-room _ _ _ c.requires.sound _ _ _ c.requires.ready c.requires.row_lt_rows c.requires.depth_value c.requires.row_value in
     let so = c.requires.sound in
-    let i = c.args.row in record { statement_length_in_bounds = omega (arith, so.whole, so.few); operand_length_in_bounds = so.inside i c.requires.row_lt_rows; row_in_bounds = simp length-set (omega (arith, room c, c.mark.auto.work)); all = references-below _ _ _ so i c.requires.row_lt_rows }
+    let i = c.args.row in record { statement_length_in_bounds = omega (arith, so.whole, so.few); operand_length_in_bounds = so.inside i c.requires.row_lt_rows; row_in_bounds = simp length-set (omega (arith, room, c.mark.auto.work)); all = references-below _ _ _ so i c.requires.row_lt_rows }
 
 pub returns : goal.returns
 returns c =

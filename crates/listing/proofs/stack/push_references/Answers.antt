@@ -47,7 +47,7 @@ overflow_add-result c =
     omega (arith, fits)
 
 pub returns-then-has_block : goal.returns-then-has_block
-unfolding statement_at size statement_at size
+unfolding statement_at size
 returns-then-has_block c =
     let told : has_block (get_or c.args.statements.now (c.args.row * statement_length) 0) ≡ true = said c.has_block.ensures c.if-has_block.true in
     let fits : c.args.base + c.push_operands-t.result < length c.push_operands-t.new.work = omega (arith, c.push_operands-t.ensures.fits, c.push_operands-t.auto.work, c.requires.row_in_bounds) in

@@ -7,5 +7,4 @@ use Rattle.wide.proofs.Fitted.positive.Goals as goal
 
 pub returns : goal.returns
 returns c =
-    let told = c.self-1.given in
-    positive_some told.0.0 c.if-n-eq0.false ∙ ap (λ (f : Fitted). positive (as_field f)) (sym told.1)
+    positive_some c.in-Fits.n c.if-n-eq0.false ∙ ap (λ (f : Fitted). positive (as_field f)) (sym c.in-Fits.is)

@@ -18,5 +18,5 @@ returns-in_default c =
 pub returns : goal.returns
 returns c =
     let found = sym (ap as_read c.in-Value.is) ∙ c.magnitude-found.ensures in
-    c.positive.ensures ∙ ap positive c.fits2.ensures
+    c.positive.ensures ∙ ap positive c.fits.ensures
     ∙ type_is c.args.s.now c.if-s-ne105.false (bits c.in-Value.w) found
