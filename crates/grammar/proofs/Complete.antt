@@ -63,6 +63,13 @@ module _ (s : Scope) {n : Next} {l : List ℕ} {c : ℕ} (f : First (int l) n) w
   unfolding R.field
   field_complete width e = step _ (expects s (at_int f)) (rw e)
 
+-- ---- at the end of the tokens
+pub went_on : {A : Type 0} {r : Res A} {a : A} (s : Scope) {n m : Next} → Leads n [] m → r ≡ go a (before s n) → r ≡ go a (before s m)
+went_on s here e = e
+
+closing : {A : Type 0} {r : Res A} {a : A} (s : Scope) {n k : Next} → Leads n [] k → ((g : First close_paren n) → r ≡ go a (at s g.behind)) → (g : First close_paren k) → r ≡ go a (at s g.behind)
+closing s here c g = c g
+
 -- ---- types and operands
 untyped : (s : Scope) (n : Next) → Ends n → R.typing (before s n) ≡ go syntax.untyped (before s n)
 unfolding R.typing
@@ -74,11 +81,11 @@ module _ (s : Scope) where
   pub typing_complete : {t : List Token} {y : syntax.Typing} {n m : Next} → Typing t y → Leads n t m → Ends m → R.typing (before s n) ≡ go y (before s m)
   unfolding R.typing
   typing_complete {n = n} no_type here h = untyped s n h
-  typing_complete (a_type e) (over f (over g here)) h = step _ (looks s (spelt f)) (step _ (expects s (spelt f)) (step _ (expects s (at_ident g)) (rw e)))
+  typing_complete (a_type e) (over f (over g p)) h = went_on s p (step _ (looks s (spelt f)) (step _ (expects s (spelt f)) (step _ (expects s (at_ident g)) (rw e))))
 
   pub operand_complete : {t : List Token} {o : syntax.Operand} {n m : Next} → Operand s t o → Leads n t m → Ends m → R.operand (before s n) ≡ go o (before s m)
   unfolding R.operand
-  operand_complete (a_value e) (over f here) h = step _ (looks s (at_valname f)) (step _ (expects s (at_valname f)) (rw e))
+  operand_complete (a_value e) (over f p) h = went_on s p (step _ (looks s (at_valname f)) (step _ (expects s (at_valname f)) (rw e)))
   operand_complete (a_constant e d) (over f p) h = step _ (looks s (at_int f)) (step _ (int_complete s f e) (step _ (typing_complete d p h) refl))
 
   pub operand-ends : {t : List Token} {o : syntax.Operand} {n m : Next} → Operand s t o → Leads n t m → Ends n
@@ -121,26 +128,26 @@ module _ (s : Scope) where
   attribute_complete : {n k : Next} (f : First open_paren n) {t : List Token} {a : syntax.Attribute} → AttributeInner t a → Leads (token f.behind) t k → (g : First close_paren k)
       → R.attribute (before s n) ≡ go a (at s g.behind)
   unfolding R.attribute_of R.counted R.bounds same
-  attribute_complete f a_known_bits (over h here) g = known_complete f h g
-  attribute_complete f power_of_two (over h here) g = word_complete f h (closed_complete syntax.power_of_two g)
-  attribute_complete f is_negative (over h here) g = word_complete f h (closed_complete syntax.negative g)
-  attribute_complete f non_negative (over h here) g = word_complete f h (closed_complete syntax.non_negative g)
-  attribute_complete f non_zero (over h here) g = word_complete f h (closed_complete syntax.non_zero g)
-  attribute_complete f has_external_uses (over h here) g = word_complete f h (closed_complete syntax.has_external_uses g)
-  attribute_complete f (sign_bits e) (over h (over i (over j here))) g = word_complete f h (step _ (expects s (spelt i)) (step _ (field_complete s j 8 e) (closed_complete _ g)))
-  attribute_complete f (in-range d e) (over h (over i (over b (over v (over c (over w (over z here))))))) g =
-      word_complete f h
+  attribute_complete f a_known_bits (over h p) g = closing s p (known_complete f h) g
+  attribute_complete f power_of_two (over h p) g = closing s p (λ c. word_complete f h (closed_complete syntax.power_of_two c)) g
+  attribute_complete f is_negative (over h p) g = closing s p (λ c. word_complete f h (closed_complete syntax.negative c)) g
+  attribute_complete f non_negative (over h p) g = closing s p (λ c. word_complete f h (closed_complete syntax.non_negative c)) g
+  attribute_complete f non_zero (over h p) g = closing s p (λ c. word_complete f h (closed_complete syntax.non_zero c)) g
+  attribute_complete f has_external_uses (over h p) g = closing s p (λ c. word_complete f h (closed_complete syntax.has_external_uses c)) g
+  attribute_complete f (sign_bits e) (over h (over i (over j p))) g = closing s p (λ c. word_complete f h (step _ (expects s (spelt i)) (step _ (field_complete s j 8 e) (closed_complete _ c)))) g
+  attribute_complete f (in-range d e) (over h (over i (over b (over v (over c (over w (over z p))))))) g =
+      closing s p (λ y. word_complete f h
       (step _ (expects s (spelt i))
       (step _ (expects s (spelt b))
-      (step _ (int_complete s v d) (step _ (expects s (spelt c)) (step _ (int_complete s w e) (step _ (expects s (spelt z)) (closed_complete _ g)))))))
+      (step _ (int_complete s v d) (step _ (expects s (spelt c)) (step _ (int_complete s w e) (step _ (expects s (spelt z)) (closed_complete _ y)))))))) g
 
   root_attribute_complete : {n k : Next} (f : First open_paren n) {t : List Token} {a : syntax.RootAttribute} → RootAttributeInner t a → Leads (token f.behind) t k → (g : First close_paren k)
       → R.root_attribute (before s n) ≡ go a (at s g.behind)
   unfolding R.root_attribute R.demanded_pattern same
-  root_attribute_complete f (demanded_bits {w} e) (over h (over i (over j here))) g =
-      step _ (expects s (spelt f))
-      (step _ (expects s (at_ident h)) (step _ (expects s (spelt i)) (step _ (expects s (at_int j)) (rw (each-count bit w e, eq-eqb (length w) (length w) refl) (closed_complete _ g)))))
-  root_attribute_complete f harvested_from_use (over h here) g = step _ (expects s (spelt f)) (step _ (expects s (at_ident h)) (closed_complete _ g))
+  root_attribute_complete f (demanded_bits {w} e) (over h (over i (over j p))) g =
+      closing s p (λ c. step _ (expects s (spelt f))
+      (step _ (expects s (at_ident h)) (step _ (expects s (spelt i)) (step _ (expects s (at_int j)) (rw (each-count bit w e, eq-eqb (length w) (length w) refl) (closed_complete _ c)))))) g
+  root_attribute_complete f harvested_from_use (over h p) g = closing s p (λ c. step _ (expects s (spelt f)) (step _ (expects s (at_ident h)) (closed_complete _ c))) g
 
 -- ---- lists of attributes
 attributes-count : {A : Type 0} {Inner : List Token → A → Type 0} {t : List Token} {l : List A} → Attributes Inner t l → length l ≤ length t

@@ -24,7 +24,7 @@ use Rattle.bynames.proofs.Reader.{go, bind, at}
 use Rattle.bynames.proofs.Moves.{Some, token_some}
 use Rattle.bynames.proofs.Steps.{step, before, looks, expects, keywords}
 use Rattle.grammar.proofs.Leads.{First, Leads, here, over, leads_cons, leads_split, leads_some, leads_long}
-use Rattle.grammar.proofs.Complete.{Ends, Shut, shut_ends, first_ends, spelt, at_ident, at_valname, field_complete, typing_complete, operand_complete, operand-ends, further_complete, operands_complete, attributes-end, own_sort, attributes_complete}
+use Rattle.grammar.proofs.Complete.{Ends, Shut, shut_ends, first_ends, spelt, at_ident, at_valname, field_complete, typing_complete, operand_complete, operand-ends, further_complete, operands_complete, attributes-end, own_sort, attributes_complete, went_on}
 
 -- ---- blocks
 has_block_lem : (n : Name) (s : Scope) {k : ℕ} → side_of n s ≡ syntax.block k → has n s ≡ true
@@ -53,12 +53,12 @@ module _ (s : Scope) where
 
   side_complete : {t : List Token} {q : syntax.RightSide} {n m : Next} → RightSide s t q → Leads n t m → Ends m → R.right_side (before s n) ≡ go q (before s m)
   unfolding R.right_side same
-  side_complete a_var (over f here) h = step _ (expects s (at_ident f)) refl
-  side_complete (a_block e) (over f (over g here)) h = step _ (expects s (at_ident f)) (step _ (field_complete s g 32 e) refl)
+  side_complete a_var (over f p) h = went_on s p (step _ (expects s (at_ident f)) refl)
+  side_complete (a_block e) (over f (over g p)) h = went_on s p (step _ (expects s (at_ident f)) (step _ (field_complete s g 32 e) refl))
   side_complete (a_phi {b} e r) (over f (over g p)) h =
       step _ (expects s (at_ident f)) (step _ (expects s (at_valname g)) (step _ (blocked_complete s b (token g.behind) e) (step _ (further_complete s r p h) refl)))
-  side_complete a_reservedinst (over f here) h = step _ (expects s (at_ident f)) refl
-  side_complete a_reservedconst (over f here) h = step _ (expects s (at_ident f)) refl
+  side_complete a_reservedinst (over f p) h = went_on s p (step _ (expects s (at_ident f)) refl)
+  side_complete a_reservedconst (over f p) h = went_on s p (step _ (expects s (at_ident f)) refl)
   side_complete (an_instruction e a r) (over f p) h = instruction_complete e a r f p h
 
 -- ---- what stands at the front of statements and items

@@ -51,7 +51,7 @@ leads_split (x ∷ t) u (over f p) =
 
 -- one way, and a token more at its end
 pub leads_on : (t : List Token) (x : Token) {u : List Token} {n m k : Next} → Leads n (t ++ (x ∷ [])) m → Leads m u k → Leads n (t ++ (x ∷ u)) k
-leads_on [] x (over f here) q = over f q
+leads_on [] x {u} {k = k} (over f p) q = over f (subst (λ (z : Next). Leads z u k) (sym (leads_nil p)) q)
 leads_on (y ∷ t) x (over f p) q = over f (leads_on t x p q)
 
 -- each token has a byte
