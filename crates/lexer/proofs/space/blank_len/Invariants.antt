@@ -1,0 +1,13 @@
+-- `blank_len` meets its contract. The loop's invariant: the whole gap is i bytes and the gap of what follows them.
+-- Assumes nothing.
+use mathlib.Core.Path.{◌≡◌}
+use Prim.Native.Nat.{◌≤◌, ◌+◌, ◌-◌}
+use lib.ListN.{length, drop}
+use Rattle.rules.specs.Space.{gap}
+use Rattle.lexer.proofs.space.blank_len.Given as goal
+
+abbrev pub invariant-loop-i : goal.invariant-loop-i
+invariant-loop-i l = (l.i ≤ length l.s) × (gap l.s ≡ l.i + gap (drop l.i l.s))
+
+abbrev pub decreases-loop-i : goal.decreases-loop-i
+decreases-loop-i l = length l.s - l.i

@@ -1,0 +1,16 @@
+-- `operands_owned` meets its contract. The loop's invariant: the spans passed are consecutive up to where it stands, so the others decide.
+-- Assumes nothing.
+use Prim.Native.Nat.{◌-◌}
+use Rattle.packed.specs.Packed.{table}
+use Rattle.rules.specs.WellFormed.{operand_spans}
+use Rattle.rules.specs.View.{each}
+use Rattle.rules.specs.Syntax.{flat}
+use Rattle.rules.specs.Rows.{item_at}
+use Rattle.wellformed.proofs.Spans.{Following}
+use Rattle.wellformed.proofs.owned.operands_owned.Given as goal
+
+abbrev pub invariant-loop-i : goal.invariant-loop-i
+invariant-loop-i l = Following (λ k. flat (operand_spans (table l.statements l.statement_bytes)) (each (item_at (table l.items l.item_bytes)) k (l.n - k))) l.initial.i l.initial.at l.i l.at
+
+abbrev pub decreases-loop-i : goal.decreases-loop-i
+decreases-loop-i l = l.n - l.i
