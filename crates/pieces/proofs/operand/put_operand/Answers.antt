@@ -15,10 +15,10 @@ pub put_name-requires : goal.put_name-requires
 put_name-requires c = tt
 
 pub returns-then-row-eq-VALUE : goal.returns-then-row-eq-VALUE
-returns-then-row-eq-VALUE c = written (value-seen _ _ _ _ c.Operand-at.ensures c.if-row-eq-VALUE.true) c.put_name.ensures
+returns-then-row-eq-VALUE c = written (value-seen _ _ _ _ c.operand_at-row.ensures c.if-row-eq-VALUE.true) c.put_name.ensures
 
 pub put_constant-requires : goal.put_constant-requires
 put_constant-requires c = tt
 
 pub returns : goal.returns
-returns c = written (ap (λ (o : Operand). operand o []) (constant-seen _ _ _ _ c.Operand-at.ensures c.if-row-eq-VALUE.false)) c.put_constant.ensures
+returns c = written (ap (λ (o : Operand). operand o []) (constant-seen _ _ _ _ c.operand_at-row.ensures c.if-row-eq-VALUE.false)) c.put_constant.ensures

@@ -15,12 +15,12 @@ loop-i-init c = passing_begin
 pub returns-then-not-kind_ok : goal.returns-then-not-kind_ok
 unfolding kinds_ok
 returns-then-not-kind_ok c =
-    let e = c.Kind-ok.ensures ∙ ap kind_ok c.item_at.ensures in
+    let e = c.kind_ok.ensures ∙ ap kind_ok c.item_at.ensures in
     passing_all_stop c.loop-i.invariant (search rules) (said_not e c.if-not-kind_ok.true-raw)
 
 pub loop-i-preserved : goal.loop-i-preserved
 loop-i-preserved c =
-    let e = c.Kind-ok.ensures ∙ ap kind_ok c.item_at.ensures in
+    let e = c.kind_ok.ensures ∙ ap kind_ok c.item_at.ensures in
     passing_more c.loop-i.invariant (search rules) (said_not_not e c.if-not-kind_ok.false-raw)
 
 pub returns : goal.returns

@@ -4,6 +4,7 @@ use mathlib.Core.Path.{ap, ◌∙◌}
 use Prim.Native.Nat.{◌-◌}
 use borrow.Author.Rules.{rules}
 use Rattle.rules.specs.WellFormed.{operand_ok, operands_ok}
+use Rattle.rules.specs.Rows.{operand_at}
 use Rattle.laws.proofs.Tests.{said_not, said_not_not}
 use Rattle.wellformed.proofs.Along.{passing_begin, passing_more, passing_stop, passing_end}
 use Rattle.wellformed.proofs.operand.operands_ok.Goals as goal
@@ -14,12 +15,12 @@ loop-i-init c = passing_begin
 pub returns-then-not-operand_ok : goal.returns-then-not-operand_ok
 unfolding operands_ok
 returns-then-not-operand_ok c =
-    let e = c.operand_ok.ensures ∙ ap (operand_ok _ _ _) c.Operand-at.ensures in
+    let e = c.operand_ok.ensures ∙ ap (operand_ok _ _ _) c.operand_at.ensures in
     passing_stop c.loop-i.invariant (search rules) (said_not e c.if-not-operand_ok.true-raw)
 
 pub loop-i-preserved : goal.loop-i-preserved
 loop-i-preserved c =
-    let e = c.operand_ok.ensures ∙ ap (operand_ok _ _ _) c.Operand-at.ensures in
+    let e = c.operand_ok.ensures ∙ ap (operand_ok _ _ _) c.operand_at.ensures in
     passing_more c.loop-i.invariant (search rules) (said_not_not e c.if-not-operand_ok.false-raw)
 
 pub returns : goal.returns

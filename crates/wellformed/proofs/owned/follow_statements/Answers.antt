@@ -21,4 +21,4 @@ pub loop-i-preserved : goal.loop-i-preserved
 loop-i-preserved c = following_more c.loop-i.invariant (span_step _ (search rules) (spans_as c.follow.ensures (ap (λ (s : Span). s ∷ []) c.span_at-s.ensures))) c.in-At.is
 
 pub returns : goal.returns
-returns c = following_end c.loop-i.invariant (each-end (λ j. span_at statement_length (table c.args.statements.now c.args.statement-bytes.now) j c.args.column) c.loop-i.i c.args.end (search rules))
+returns c = following_end c.loop-i.invariant (each-end (λ j. span_at statement_length (table c.args.statements.now c.args.statement_bytes.now) j c.args.column) c.loop-i.i c.args.end (search rules))

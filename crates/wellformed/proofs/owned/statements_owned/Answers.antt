@@ -17,11 +17,11 @@ loop-i-init c = following_begin
 
 pub returns-in_default : goal.returns-in_default
 unfolding statements_owned
-returns-in_default c = broken_at c.loop-i.invariant (each_start (λ j. (item_at (table c.args.items.now c.args.item-bytes.now) j).statements) c.args.n) _ (span_step _ (search rules) (spans_as c.follow.ensures (ap (λ (r : Item). r.statements ∷ []) c.item_at-r.ensures))) c.in_default.is
+returns-in_default c = broken_at c.loop-i.invariant (each_start (λ j. (item_at (table c.args.items.now c.args.item_bytes.now) j).statements) c.args.n) _ (span_step _ (search rules) (spans_as c.follow.ensures (ap (λ (r : Item). r.statements ∷ []) c.item_at-r.ensures))) c.in_default.is
 
 pub loop-i-preserved : goal.loop-i-preserved
 loop-i-preserved c = following_more c.loop-i.invariant (span_step _ (search rules) (spans_as c.follow.ensures (ap (λ (r : Item). r.statements ∷ []) c.item_at-r.ensures))) c.in-At.is
 
 pub returns : goal.returns
 unfolding statements_owned
-returns c = owned_to c.loop-i.invariant (each_start (λ j. (item_at (table c.args.items.now c.args.item-bytes.now) j).statements) c.args.n) _ (each-end (λ j. (item_at (table c.args.items.now c.args.item-bytes.now) j).statements) c.loop-i.i c.args.n (search rules))
+returns c = owned_to c.loop-i.invariant (each_start (λ j. (item_at (table c.args.items.now c.args.item_bytes.now) j).statements) c.args.n) _ (each-end (λ j. (item_at (table c.args.items.now c.args.item_bytes.now) j).statements) c.loop-i.i c.args.n (search rules))

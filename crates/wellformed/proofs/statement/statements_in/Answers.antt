@@ -27,7 +27,7 @@ pub statement_ok-requires : goal.statement_ok-requires
 statement_ok-requires c =
     let row-slot : let args = c.args in
     let loop = c.loop-i in
-    c.slot-k.result ≡ slot_of (length loop.seen) (name_at args.text.now (table args.statements.now args.statement-bytes.now) loop.i) = slot_at _ _ _ _ c.statement_at-r.ensures c.letters.ensures c.slot-k.ensures.0 in
+    c.slot-k.result ≡ slot_of (length loop.seen) (name_at args.text.now (table args.statements.now args.statement_bytes.now) loop.i) = slot_at _ _ _ _ c.statement_at-r.ensures c.letters.ensures c.slot-k.ensures.0 in
     unmarked_new c.loop-i.invariant.1.1 row-slot
 
 pub returns-then-not-statement_ok : goal.returns-then-not-statement_ok
@@ -48,7 +48,7 @@ pub loop-i-preserved : goal.loop-i-preserved
 loop-i-preserved c =
     let row-slot : let args = c.args in
     let loop = c.loop-i in
-    c.slot-k.result ≡ slot_of (length loop.seen) (name_at args.text.now (table args.statements.now args.statement-bytes.now) loop.i) = slot_at _ _ _ _ c.statement_at-r.ensures c.letters.ensures c.slot-k.ensures.0 in
+    c.slot-k.result ≡ slot_of (length loop.seen) (name_at args.text.now (table args.statements.now args.statement_bytes.now) loop.i) = slot_at _ _ _ _ c.statement_at-r.ensures c.letters.ensures c.slot-k.ensures.0 in
     let e = c.statement_ok.ensures ∙ ap (statement_ok _ _ _ _ _ _) c.statement_at-r.ensures in
     let inv = c.loop-i.invariant in (
       passing_more inv.0 c.loop-i-test.true (said_not_not e c.if-not-statement_ok.false-raw),

@@ -1,0 +1,41 @@
+-- `store::loading::load` meets its contract.
+-- Assumes nothing.
+use mathlib.Core.Path.{sym, ap, ◌∙◌}
+use Rattle.laws.proofs.Tests.{said_not, said_not_not}
+use Rattle.rules.specs.Stored.{refused, content}
+use Rattle.store.proofs.Parts.{shaped, parts_inside, parts_whole}
+use Rattle.store.proofs.Loads.{bad_shape, small, roomed, malformed, accepted, load_refused, load_all, answer_is, told, over_text}
+use Rattle.store.proofs.loading.load.Goals as goal
+
+pub returns-then-fault-ne0 : goal.returns-then-fault-ne0
+returns-then-fault-ne0 c = load_refused _ _ _ _ _ _ (bad_shape _ _ (λ e. c.if-fault-ne0.true (c.shape-fault.ensures ∙ e)) ∙ ap refused (sym c.shape-fault.ensures))
+
+pub lengths-l-requires : goal.lengths-l-requires
+lengths-l-requires c = (shaped _ (sym c.shape-fault.ensures ∙ c.if-fault-ne0.false)).long
+
+pub returns-then-not-roomy : goal.returns-then-not-roomy
+returns-then-not-roomy c = load_refused _ _ _ _ _ 15 (small _ _ (sym c.shape-fault.ensures ∙ c.if-fault-ne0.false) (said_not (told _ _ c.roomy.ensures c.lengths-l.ensures) c.if-not-roomy.true-raw))
+
+pub formed-requires : goal.formed-requires
+formed-requires c = record { l_in_bounds = parts_inside _ c.lengths-l.ensures (sym c.shape-fault.ensures ∙ c.if-fault-ne0.false); l_value = parts_whole _ c.lengths-l.ensures (sym c.shape-fault.ensures ∙ c.if-fault-ne0.false) }
+
+pub returns-then-not-formed : goal.returns-then-not-formed
+returns-then-not-formed c = load_refused _ _ _ _ _ 8
+    (roomed _ _ (sym c.shape-fault.ensures ∙ c.if-fault-ne0.false) (said_not_not (told _ _ c.roomy.ensures c.lengths-l.ensures) c.if-not-roomy.false-raw)
+    ∙ ap (content _) (sym c.lengths-l.ensures)
+    ∙ malformed _ _ (said_not c.formed.ensures c.if-not-formed.true-raw))
+
+pub take_parts-requires : goal.take_parts-requires
+take_parts-requires c = record { l_in_bounds = parts_inside _ c.lengths-l.ensures (sym c.shape-fault.ensures ∙ c.if-fault-ne0.false); attributes_value = said_not_not c.roomy.ensures c.if-not-roomy.false-raw }
+
+pub returns : goal.returns
+returns c =
+    let t = c.take_parts.ensures.text_after in
+    let l = c.lengths-l.result in
+    let file = c.args.file.now in
+    let inside = parts_inside file c.lengths-l.ensures (sym c.shape-fault.ensures ∙ c.if-fault-ne0.false) in
+    load_all _ _ _ _ _ _ _ _ _ _
+    (roomed _ _ (sym c.shape-fault.ensures ∙ c.if-fault-ne0.false) (said_not_not (told _ _ c.roomy.ensures c.lengths-l.ensures) c.if-not-roomy.false-raw)
+    ∙ ap (content file) (sym c.lengths-l.ensures)
+    ∙ accepted file l (said_not_not c.formed.ensures c.if-not-formed.false-raw))
+    (answer_is file l inside) (over_text file l _ inside t.0) t.1.0 t.1.1.0 t.1.1.1.0 t.1.1.1.1
