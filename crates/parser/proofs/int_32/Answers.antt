@@ -8,4 +8,4 @@ pub returns : goal.returns
 unfolding R.int_field world
 returns c I S O A =
     chain.then _ _ _ _ _ _ _ _ _ _ _ (c.int-n.ensures I S O A)
-    (chain.seen _ _ I S O A _ _ _ (values.alike _ _ _ _ _ _ c.fits-31.ensures (c.field.ensures _ I S O A)))
+    (chain.seen _ _ I S O A _ _ _ (values.alike _ _ _ _ _ _ c.fits_32.ensures (c.field.ensures _ I S O A)))

@@ -43,7 +43,7 @@ pub slice_bounds-put_root_attributes-end : goal.slice_bounds-put_root_attributes
 slice_bounds-put_root_attributes-end c = le_refl _
 
 pub put_root_attributes-n-requires : goal.put_root_attributes-n-requires
-put_root_attributes-n-requires c = c.requires.text_len_bound
+put_root_attributes-n-requires c = c.requires
 
 pub overflow_add-n-2 : goal.overflow_add-n-2
 overflow_add-n-2 c =

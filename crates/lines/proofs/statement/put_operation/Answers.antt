@@ -25,7 +25,7 @@ pub slice_bounds-put_operands-end : goal.slice_bounds-put_operands-end
 slice_bounds-put_operands-end c = le_refl _
 
 pub put_operands-requires : goal.put_operands-requires
-put_operands-requires c = c.requires.text_len_bound
+put_operands-requires c = c.requires
 
 pub overflow_add-result : goal.overflow_add-result
 overflow_add-result c =

@@ -42,7 +42,7 @@ pub slice_bounds-put_further-end : goal.slice_bounds-put_further-end
 slice_bounds-put_further-end c = le_refl _
 
 pub put_further-requires : goal.put_further-requires
-put_further-requires c = c.requires.text_len_bound
+put_further-requires c = c.requires
 
 pub overflow_add-result : goal.overflow_add-result
 overflow_add-result c =

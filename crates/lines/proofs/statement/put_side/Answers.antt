@@ -21,7 +21,7 @@ pub returns-then-row-eq-BLOCK : goal.returns-then-row-eq-BLOCK
 returns-then-row-eq-BLOCK c = written (ap (λ (s : RightSide). side s []) (block-seen _ _ _ c.args.row c.if-row-eq-BLOCK.true)) c.put_block.ensures
 
 pub put_phi-requires : goal.put_phi-requires
-put_phi-requires c = c.requires.text_len_bound
+put_phi-requires c = c.requires
 
 pub returns-then-row-eq-PHI : goal.returns-then-row-eq-PHI
 returns-then-row-eq-PHI c = written (ap (λ (s : RightSide). side s []) (phi-seen _ _ _ c.args.row c.if-row-eq-PHI.true)) c.put_phi.ensures
@@ -39,7 +39,7 @@ pub returns-then-row-eq-RESERVEDCONST : goal.returns-then-row-eq-RESERVEDCONST
 returns-then-row-eq-RESERVEDCONST c = written (ap (λ (s : RightSide). side s []) (reservedconst-seen _ _ _ c.args.row c.if-row-eq-RESERVEDCONST.true)) c.put-then-row-eq-RESERVEDCONST.ensures
 
 pub put_operation-requires : goal.put_operation-requires
-put_operation-requires c = c.requires.text_len_bound
+put_operation-requires c = c.requires
 
 pub returns : goal.returns
 returns c = written (ap (λ (s : RightSide). side s []) (instruction-seen _ _ _ c.args.row c.if-row-eq-VAR.false c.if-row-eq-BLOCK.false c.if-row-eq-PHI.false c.if-row-eq-RESERVEDINST.false c.if-row-eq-RESERVEDCONST.false)) c.put_operation.ensures

@@ -30,7 +30,7 @@ take_parts-requires c = record { l_in_bounds = parts_inside _ c.lengths-l.ensure
 
 pub returns : goal.returns
 returns c =
-    let t = c.take_parts.ensures.text_after in
+    let t = c.take_parts.ensures in
     let l = c.lengths-l.result in
     let file = c.args.file.now in
     let inside = parts_inside file c.lengths-l.ensures (sym c.shape-fault.ensures ∙ c.if-fault-ne0.false) in
@@ -38,4 +38,4 @@ returns c =
     (roomed _ _ (sym c.shape-fault.ensures ∙ c.if-fault-ne0.false) (said_not_not (told _ _ c.roomy.ensures c.lengths-l.ensures) c.if-not-roomy.false-raw)
     ∙ ap (content file) (sym c.lengths-l.ensures)
     ∙ accepted file l (said_not_not c.formed.ensures c.if-not-formed.false-raw))
-    (answer_is file l inside) (over_text file l _ inside t.0) t.1.0 t.1.1.0 t.1.1.1.0 t.1.1.1.1
+    (answer_is file l inside) (over_text file l _ inside t.text_after) t.after t.statements_after t.operands_after t.attributes_after

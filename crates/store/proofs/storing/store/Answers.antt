@@ -12,62 +12,62 @@ use Rattle.store.proofs.Pieces.{ill_formed, well, Sized, sized, counted-few}
 use Rattle.store.proofs.storing.store.Goals as goal
 
 pub returns-then-not-well_formed : goal.returns-then-not-well_formed
-returns-then-not-well_formed c = ill_formed _ _ _ _ _ _ _ (said_not c.well-formed-2.ensures c.if-not-well_formed.true-raw)
+returns-then-not-well_formed c = ill_formed _ _ _ _ _ _ _ (said_not c.well_formed-2.ensures c.if-not-well_formed.true-raw)
 
 pub overflow_mul-i : goal.overflow_mul-i
 overflow_mul-i c =
     let sized-here : let a = c.args in
-    Sized a.text.now a.items.now a.statements.now a.operands.now a.attributes.now (counts a.item_count a.statement-count a.operand-count a.attribute-count) = sized _ _ _ _ _ _ (said_not_not c.well-formed-2.ensures c.if-not-well_formed.false-raw) in
+    Sized a.text.now a.items.now a.statements.now a.operands.now a.attributes.now (counts a.item_count a.statement_count a.operand_count a.attribute_count) = sized _ _ _ _ _ _ (said_not_not c.well_formed-2.ensures c.if-not-well_formed.false-raw) in
     omega (arith, sized-here.small.items)
 
 pub overflow_mul-s : goal.overflow_mul-s
 overflow_mul-s c =
     let sized-here : let a = c.args in
-    Sized a.text.now a.items.now a.statements.now a.operands.now a.attributes.now (counts a.item_count a.statement-count a.operand-count a.attribute-count) = sized _ _ _ _ _ _ (said_not_not c.well-formed-2.ensures c.if-not-well_formed.false-raw) in
+    Sized a.text.now a.items.now a.statements.now a.operands.now a.attributes.now (counts a.item_count a.statement_count a.operand_count a.attribute_count) = sized _ _ _ _ _ _ (said_not_not c.well_formed-2.ensures c.if-not-well_formed.false-raw) in
     omega (arith, sized-here.small.statements)
 
 pub overflow_mul-o : goal.overflow_mul-o
 overflow_mul-o c =
     let sized-here : let a = c.args in
-    Sized a.text.now a.items.now a.statements.now a.operands.now a.attributes.now (counts a.item_count a.statement-count a.operand-count a.attribute-count) = sized _ _ _ _ _ _ (said_not_not c.well-formed-2.ensures c.if-not-well_formed.false-raw) in
+    Sized a.text.now a.items.now a.statements.now a.operands.now a.attributes.now (counts a.item_count a.statement_count a.operand_count a.attribute_count) = sized _ _ _ _ _ _ (said_not_not c.well_formed-2.ensures c.if-not-well_formed.false-raw) in
     omega (arith, sized-here.small.operands)
 
 pub overflow_mul-a : goal.overflow_mul-a
 overflow_mul-a c =
     let sized-here : let a = c.args in
-    Sized a.text.now a.items.now a.statements.now a.operands.now a.attributes.now (counts a.item_count a.statement-count a.operand-count a.attribute-count) = sized _ _ _ _ _ _ (said_not_not c.well-formed-2.ensures c.if-not-well_formed.false-raw) in
+    Sized a.text.now a.items.now a.statements.now a.operands.now a.attributes.now (counts a.item_count a.statement_count a.operand_count a.attribute_count) = sized _ _ _ _ _ _ (said_not_not c.well_formed-2.ensures c.if-not-well_formed.false-raw) in
     omega (arith, sized-here.small.attributes)
 
 pub slice_bounds-store_rows-end : goal.slice_bounds-store_rows-end
 slice_bounds-store_rows-end c =
     let sized-here : let a = c.args in
-    Sized a.text.now a.items.now a.statements.now a.operands.now a.attributes.now (counts a.item_count a.statement-count a.operand-count a.attribute-count) = sized _ _ _ _ _ _ (said_not_not c.well-formed-2.ensures c.if-not-well_formed.false-raw) in
+    Sized a.text.now a.items.now a.statements.now a.operands.now a.attributes.now (counts a.item_count a.statement_count a.operand_count a.attribute_count) = sized _ _ _ _ _ _ (said_not_not c.well_formed-2.ensures c.if-not-well_formed.false-raw) in
     sym (length-take-le (c.args.item_count * item_length) c.args.items.now sized-here.items)
 
 pub slice_bounds-store_rows-end-2 : goal.slice_bounds-store_rows-end-2
 slice_bounds-store_rows-end-2 c =
     let sized-here : let a = c.args in
-    Sized a.text.now a.items.now a.statements.now a.operands.now a.attributes.now (counts a.item_count a.statement-count a.operand-count a.attribute-count) = sized _ _ _ _ _ _ (said_not_not c.well-formed-2.ensures c.if-not-well_formed.false-raw) in
+    Sized a.text.now a.items.now a.statements.now a.operands.now a.attributes.now (counts a.item_count a.statement_count a.operand_count a.attribute_count) = sized _ _ _ _ _ _ (said_not_not c.well_formed-2.ensures c.if-not-well_formed.false-raw) in
     sym (length-take-le (c.args.statement_count * statement_length) c.args.statements.now sized-here.statements)
 
 pub slice_bounds-store_rows-end-3 : goal.slice_bounds-store_rows-end-3
 slice_bounds-store_rows-end-3 c =
     let sized-here : let a = c.args in
-    Sized a.text.now a.items.now a.statements.now a.operands.now a.attributes.now (counts a.item_count a.statement-count a.operand-count a.attribute-count) = sized _ _ _ _ _ _ (said_not_not c.well-formed-2.ensures c.if-not-well_formed.false-raw) in
+    Sized a.text.now a.items.now a.statements.now a.operands.now a.attributes.now (counts a.item_count a.statement_count a.operand_count a.attribute_count) = sized _ _ _ _ _ _ (said_not_not c.well_formed-2.ensures c.if-not-well_formed.false-raw) in
     sym (length-take-le (c.args.operand_count * operand_length) c.args.operands.now sized-here.operands)
 
 pub slice_bounds-store_rows-end-4 : goal.slice_bounds-store_rows-end-4
 slice_bounds-store_rows-end-4 c =
     let sized-here : let a = c.args in
-    Sized a.text.now a.items.now a.statements.now a.operands.now a.attributes.now (counts a.item_count a.statement-count a.operand-count a.attribute-count) = sized _ _ _ _ _ _ (said_not_not c.well-formed-2.ensures c.if-not-well_formed.false-raw) in
+    Sized a.text.now a.items.now a.statements.now a.operands.now a.attributes.now (counts a.item_count a.statement_count a.operand_count a.attribute_count) = sized _ _ _ _ _ _ (said_not_not c.well_formed-2.ensures c.if-not-well_formed.false-raw) in
     sym (length-take-le (c.args.attribute_count * attribute_length) c.args.attributes.now sized-here.attributes)
 
 pub store_rows-requires : goal.store_rows-requires
 store_rows-requires c =
     let sized-here : let a = c.args in
-    Sized a.text.now a.items.now a.statements.now a.operands.now a.attributes.now (counts a.item_count a.statement-count a.operand-count a.attribute-count) = sized _ _ _ _ _ _ (said_not_not c.well-formed-2.ensures c.if-not-well_formed.false-raw) in
+    Sized a.text.now a.items.now a.statements.now a.operands.now a.attributes.now (counts a.item_count a.statement_count a.operand_count a.attribute_count) = sized _ _ _ _ _ _ (said_not_not c.well_formed-2.ensures c.if-not-well_formed.false-raw) in
     (sized-here.letters, counted-few _ _ _ _ _ _ sized-here)
 
 pub returns : goal.returns
 unfolding stored
-returns c = well _ _ _ _ _ _ _ (said_not_not c.well-formed-2.ensures c.if-not-well_formed.false-raw) c.store_rows.ensures
+returns c = well _ _ _ _ _ _ _ (said_not_not c.well_formed-2.ensures c.if-not-well_formed.false-raw) c.store_rows.ensures

@@ -9,11 +9,11 @@ pub returns : goal.returns
 returns c =
     let s = c.args.s in
     let p = c.put.ensures in
-    let a = c.counted-seen.ensures.value in
-    let t = c.counted-tokens.ensures.value in
-    let m = c.numbers_of_mode-m.ensures.value in
-    let q = c.numbers_of_sequence-q.ensures.value in
+    let a = c.counted-seen.ensures in
+    let t = c.counted-tokens.ensures in
+    let m = c.numbers_of_mode-m.ensures in
+    let q = c.numbers_of_sequence-q.ensures in
     record {
-      words = p ∙ state-words s _ _ _ _ _ a.0 t.0 m.0 q.0;
-      back = ap decoded p ∙ state-back s _ _ _ _ _ (ap low_of a.0 ∙ a.1) (ap low_of t.0 ∙ t.1) m.1 q.1;
+      words = p ∙ state-words s _ _ _ _ _ a.value t.value m.value q.value;
+      back = ap decoded p ∙ state-back s _ _ _ _ _ (ap low_of a.value ∙ a.n_value) (ap low_of t.value ∙ t.n_value) m.result_value q.result_value;
     }
