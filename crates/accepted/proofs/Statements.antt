@@ -17,7 +17,7 @@ use Rattle.rules.specs.Keywords as keyword
 use Rattle.rules.specs.Tokens as kind
 use Rattle.rules.specs.Rows.{◌up_to◌, letters_of, name_at, statement_at, statement_words, known_bits_code, range_code, operand_at, attribute_at}
 use Rattle.rules.specs.WellFormed.{name_in, no_span, new_name, is_assignment, is_instruction, is_condition, name_ok, width_fits, width_ok, number_ok, has_block, block_ok, arity, operand_ok, operands_ok, operands_fit, attribute_ok, attributes_ok, attributes_fit, statement_ok}
-use Rattle.rules.specs.World.{Stand, Tables, asks, claim_statement, many}
+use Rattle.rules.specs.World.{Stand, Tables, asks, claim_statement}
 use Rattle.rules.specs.Reading as R
 use Rattle.rules.specs.Reading.{letters}
 use Rattle.laws.proofs.Ranges.{inside_yes}

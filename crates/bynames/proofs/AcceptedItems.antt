@@ -9,7 +9,7 @@ use lib.Dec.{eqb}
 use lib.ListN.{length}
 use Rattle.rules.specs.Bytes.{bytes, same}
 use Rattle.rules.specs.Tokens as T
-use Rattle.rules.specs.Syntax.{Name, Operand, Statement, assignment, pc, blockpc, cand, infer, result, Item, onto, of_operand}
+use Rattle.rules.specs.Syntax.{Name, Operand, Statement, assignment, pc, blockpc, infer, Item, onto, of_operand}
 use Rattle.rules.specs.Listing.{has}
 use Rattle.rules.specs.Meaning.{All}
 use Rattle.laws.proofs.Members.{all_append}

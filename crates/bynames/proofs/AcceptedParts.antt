@@ -11,7 +11,7 @@ use Rattle.rules.specs.Bytes.{bytes, same}
 use Rattle.rules.specs.Integers.{Read, number, refused, fits, integer, type_width}
 use Rattle.rules.specs.Instructions.{instruction_of, arity_of}
 use Rattle.rules.specs.Tokens as T
-use Rattle.rules.specs.Syntax.{Name, typed, Operand, RightSide, var, block, phi, reservedinst, reservedconst, Statement, flat, of_operand, of_side}
+use Rattle.rules.specs.Syntax.{Name, typed, Operand, RightSide, Statement, flat, of_operand, of_side}
 use Rattle.rules.specs.Listing.{has}
 use Rattle.rules.specs.Meaning.{All}
 use Rattle.rules.specs.Grammar.{side_of}

@@ -11,7 +11,7 @@ use Rattle.rules.specs.Integers.{decimal}
 use Rattle.rules.specs.Instructions.{instruction_name}
 use Rattle.rules.specs.Tokens as T
 use Rattle.rules.specs.Syntax.{Typing, untyped, typed, Operand, value, constant, RightSide, var, block, phi, reservedinst, reservedconst, instruction, Assignment, Statement, assignment, pc, blockpc, onto}
-use Rattle.rules.specs.Printing.{name, feed, typing, operand, further, operands, side, attribute, attributes, line, lines}
+use Rattle.rules.specs.Printing.{feed, typing, operand, further, operands, side, attribute, attributes, line, lines}
 use Rattle.rules.specs.Meaning.{All}
 use Rattle.bynames.proofs.WellFormed.{AttributeOk, AssignmentOk, Fits, Wf}
 use Rattle.bynames.proofs.Tokens.{found, token, token-space}

@@ -16,7 +16,7 @@ use Rattle.rules.specs.Printing.{number, typing, operand, further, operands}
 use Rattle.rules.specs.Meaning.{All}
 use Rattle.laws.proofs.Members.{all_left, all_right}
 use Rattle.bynames.proofs.WellFormed.{TypingOk, OperandOk, Known}
-use Rattle.bynames.proofs.Tokens.{token, Stops}
+use Rattle.bynames.proofs.Tokens.{Stops}
 use Rattle.bynames.proofs.Pieces.{name-token, word-token, int-token, colon-token, comma-token}
 use Rattle.bynames.proofs.Decimals.{decimal-printed, width_printed}
 use Rattle.bynames.proofs.Reader as R

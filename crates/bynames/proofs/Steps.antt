@@ -12,7 +12,7 @@ use Rattle.rules.specs.Tokens as T
 use Rattle.rules.specs.Syntax.{Statement}
 use Rattle.rules.specs.Printing.{number}
 use Rattle.laws.proofs.Same.{same_refl}
-use Rattle.bynames.proofs.Tokens.{Next, found, token, token-space, token-feed, Stops}
+use Rattle.bynames.proofs.Tokens.{Next, found, token-space, token-feed, Stops}
 use Rattle.bynames.proofs.Pieces.{int-token, comma-token, equals-token}
 use Rattle.bynames.proofs.Decimals.{decimal-printed, fits-printed}
 use Rattle.bynames.proofs.Reader as R

@@ -21,7 +21,7 @@ use Rattle.laws.proofs.Cases.{by_cases}
 use Rattle.laws.proofs.Same.{eq_same}
 use Rattle.laws.proofs.Tests.{and_left, and_right, cond-true, cond-false}
 use Rattle.laws.proofs.Members.{all_map, all_append}
-use Rattle.listing.specs.References.{named, size, references, refers}
+use Rattle.listing.specs.References.{named, size, references}
 use Rattle.byrows.proofs.Views.{assigning, is_condition, is_bare, Fit}
 use Rattle.byrows.proofs.Spans.{every-along}
 

@@ -18,7 +18,7 @@ use Rattle.bynames.proofs.Reader.{Res, go, P, at}
 use Rattle.bynames.proofs.Moves.{Some}
 use Rattle.bynames.proofs.Steps.{step, before, looks, demands, expects}
 use Rattle.bynames.proofs.BackAttributes.{each-count}
-use Rattle.rules.specs.Grammar.{Token, ident, valname, known_bits, int, colon, open_paren, close_paren, kind_of, Scope, Typing, no_type, a_type, Operand, a_value, a_constant, Further, no_further, one_further, Operands, no_operands, some_operands, AttributeInner, a_known_bits, power_of_two, is_negative, non_negative, non_zero, has_external_uses, sign_bits, in-range, RootAttributeInner, demanded_bits, harvested_from_use, Attributes, no_attributes, one_attribute}
+use Rattle.rules.specs.Grammar.{Token, ident, valname, known_bits, int, open_paren, close_paren, kind_of, Scope, Typing, no_type, a_type, Operand, a_value, a_constant, Further, no_further, one_further, Operands, no_operands, some_operands, AttributeInner, a_known_bits, power_of_two, is_negative, non_negative, non_zero, has_external_uses, sign_bits, in-range, RootAttributeInner, demanded_bits, harvested_from_use, Attributes, no_attributes, one_attribute}
 use Rattle.grammar.proofs.Leads.{First, Leads, here, over, leads_cons, leads_split, leads_long}
 
 -- ---- what may follow: no ':' behind an operand; neither ':' nor '(' behind a line

@@ -15,7 +15,7 @@ use Rattle.rules.specs.Tokens.{token_at}
 use Rattle.rules.specs.Integers as I
 use Rattle.rules.specs.Integers.{opposite}
 use Rattle.rules.specs.Syntax as syntax
-use Rattle.rules.specs.Grammar.{Token, ident, valname, int, colon, equals, open_paren, close_paren, word, Written, Lexes, at_end, at_token, no_type, a_type, a_value, a_constant, non_zero, no_attributes, one_attribute, a_var, an_assignment, no_statements, one_statement, a_cand, a_candidate, Items, no_items, one_item, Sentence}
+use Rattle.rules.specs.Grammar.{Token, valname, int, colon, equals, open_paren, close_paren, word, Written, Lexes, at_end, at_token, no_type, a_type, a_value, a_constant, non_zero, no_attributes, one_attribute, a_var, an_assignment, no_statements, one_statement, a_cand, a_candidate, Items, no_items, one_item, Sentence}
 
 abbrev text : List ℕ
 text = bytes "%0:i8=var (nonZero)\ncand %0 -07 ; so"

@@ -24,7 +24,7 @@ use Rattle.bynames.proofs.Reader as R
 use Rattle.bynames.proofs.Reader.{State, Res, go, stop, P, bind, at, fuel_of, Inferred, reading, accepted}
 use Rattle.bynames.proofs.AcceptedParts.{Ok, seq, either}
 use Rattle.simulation.proofs.Items.{entry_of}
-use Rattle.rules.specs.Grammar.{Token, ident, valname, word, Scope, Operand, RootAttributeInner, Attributes, Statements, Infer, an_infer, a_result, a_cand, Item, a_pair, a_candidate, a_left_hand_side, a_right_hand_side, Items, no_items, one_item}
+use Rattle.rules.specs.Grammar.{Token, valname, word, Scope, Operand, RootAttributeInner, Attributes, Statements, Infer, an_infer, a_result, a_cand, Item, a_pair, a_candidate, a_left_hand_side, a_right_hand_side, Items, no_items, one_item}
 use Rattle.grammar.proofs.Leads.{Leads, here, over, leads_join}
 use Rattle.grammar.proofs.Sound.{Stays, Took, took, is_ident, is_valname, expect-sound, keyword_sound, Tested, tested, known-sound, operand_sound}
 use Rattle.grammar.proofs.SoundAttributes.{attributes-sound, root_attribute_sound}

@@ -25,7 +25,7 @@ use Rattle.byrows.proofs.Names.{Assigns}
 use Rattle.byrows.proofs.Views.{assigning}
 use Rattle.byrows.proofs.Formed.{statements-owned, item_inside, item_whole, item_own, tables-sound, tables-room, listed-before, listed-between}
 use Rattle.printer.specs.Rows.{reached, rows_before, rows_between, item_text, items_text}
-use Rattle.printer.specs.Contracts.{Prepared, Within, Own, Owned}
+use Rattle.printer.specs.Contract.{Prepared, Within, Own, Owned}
 use Rattle.printable.proofs.Spans.{text-short, closing-operands, closing-attributes, operands-few, attributes-few}
 use Rattle.printable.proofs.Texts.{joined-printed}
 pub use Rattle.printable.proofs.Spans.{Small, counts_small}

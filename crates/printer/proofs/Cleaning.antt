@@ -20,7 +20,7 @@ use Rattle.listing.specs.Listing.{Marks, none, marked}
 use Rattle.listing.specs.Work.{has_mark, marks_of}
 use Rattle.listing.proofs.Marking.{marked-only}
 use Rattle.listing.proofs.Words.{marks_at}
-use Rattle.printer.specs.Contracts.{Within, Cleared}
+use Rattle.printer.specs.Contract.{Within, Cleared}
 
 -- words of a list with a part put anew: before the part, in it, and behind it
 module _ (w y : List ℕ) (at n : ℕ) (fits : at + n ≤ length w) (long : length y ≡ n) where

@@ -24,7 +24,7 @@ use Rattle.listing.proofs.Steps.{ready-cleared}
 use Rattle.pieces.proofs.Chains.{Chain, chain_none, chain_whole, chain_as, chain_more, chain_done}
 use Rattle.listing.specs.Roots.{first_roots, second_roots}
 use Rattle.printer.specs.Rows.{reached, lines_of, rows_before, rows_between, item_text, items_text}
-use Rattle.printer.specs.Contracts.{Prepared, Within, Own, Owned, RowsPrinted, Cleared, ItemPrinted, ItemsPrinted, Measured}
+use Rattle.printer.specs.Contract.{Prepared, Within, Own, Owned, RowsPrinted, Cleared, ItemPrinted, ItemsPrinted, Measured}
 use Rattle.printer.proofs.Reaching.{reached-append, reached-within, reached-few}
 use Rattle.printer.proofs.Texts.{lines_of-short, laid-joined}
 use Rattle.printer.proofs.ByKind.{first_short, second_short}

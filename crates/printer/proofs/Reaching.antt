@@ -18,7 +18,7 @@ use Rattle.listing.proofs.Orders.{Reach, here, there, unfolded_reach}
 use Rattle.listing.proofs.Listings.{listing-append}
 use Rattle.listing.proofs.Steps.{refers-counted, refers-earlier}
 use Rattle.printer.specs.Rows.{reached}
-use Rattle.printer.specs.Contracts.{Within}
+use Rattle.printer.specs.Contract.{Within}
 use Rattle.printer.proofs.Counting.{free, free_most, firsts-few}
 
 module _ (S O : List ℕ) (s : ℕ) (so : Sound S O s) where

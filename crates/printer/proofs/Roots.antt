@@ -21,7 +21,7 @@ use Rattle.listing.specs.Work.{marks_of}
 use Rattle.listing.proofs.Marking.{marked_append}
 use Rattle.pieces.proofs.Chains.{Chain, chain_whole}
 use Rattle.printer.specs.Rows.{reached, lines_of}
-use Rattle.printer.specs.Contracts.{Prepared, RowsPrinted}
+use Rattle.printer.specs.Contract.{Prepared, RowsPrinted}
 use Rattle.printer.proofs.Reaching.{reached-append, reached-counted, reached-length}
 use Rattle.printer.proofs.Texts.{lines_of-append, lines_of-short}
 

@@ -15,7 +15,7 @@ use Rattle.pieces.specs.Bounds.{Few}
 use Rattle.proof_tails.proofs.Tails.{line-tail, lines-tail, first-closing-tail}
 use Rattle.lines.proofs.Lines.{line-short}
 use Rattle.printer.specs.Rows.{lines_of}
-use Rattle.printer.specs.Contracts.{Prepared}
+use Rattle.printer.specs.Contract.{Prepared}
 
 module _ (text S O A : List ℕ) where
   -- the lines of rows are the line of the first and those of the others

@@ -15,7 +15,7 @@ use Rattle.listing.specs.Machine.{Run, emit, lists}
 use Rattle.listing.specs.Work.{marks_of, to_come, Ready, Begun, Listed, Ended}
 use Rattle.pieces.proofs.Chains.{Chain, chain_none, chain_as, chain_more, chain_done}
 use Rattle.printer.specs.Rows.{reached, lines_of}
-use Rattle.printer.specs.Contracts.{Prepared, RowsPrinted}
+use Rattle.printer.specs.Contract.{Prepared, RowsPrinted}
 use Rattle.printer.proofs.Reaching.{reached-counted, reached-length}
 use Rattle.printer.proofs.Texts.{lines_of-joined, lines_of-short}
 

@@ -1,3 +1,3 @@
 -- What the contracts of the printer speak of, beside the definitions of `rules` and `listing`.
 pub mod Rows
-pub mod Contracts
+pub mod Contract

@@ -9,7 +9,7 @@ mod listed;
 ghost use Rattle.std.specs.Prelude.{◌≡◌, ◌≤◌, length};
 ghost use Rattle.listing.specs.Listing.{none};
 ghost use Rattle.listing.specs.Work.{marks_of};
-ghost use Rattle.printer.specs.Contracts.{Prepared, Own, Owned, Cleared, ItemPrinted, ItemsPrinted, Measured};
+ghost use Rattle.printer.specs.Contract.{Prepared, Own, Owned, Cleared, ItemPrinted, ItemsPrinted, Measured};
 
 use closing::{put_first_closing, put_second_closing};
 use listed::{put_before, put_between};

@@ -3,7 +3,7 @@ ghost use Rattle.std.specs.Prelude.{[], ◌∷◌, ◌≤◌, ◌<◌};
 ghost use Rattle.rules.specs.Meaning.{All};
 ghost use Rattle.listing.specs.References.{named};
 ghost use Rattle.listing.specs.Roots.{first_roots, second_roots};
-ghost use Rattle.printer.specs.Contracts.{Prepared, RowsPrinted};
+ghost use Rattle.printer.specs.Contract.{Prepared, RowsPrinted};
 
 use lines::statement::put_line;
 use listing::{Step, advance, begin};

@@ -4,7 +4,7 @@ ghost use Rattle.rules.specs.Prints.{PrintEnds, Prints, fitting};
 ghost use Rattle.rules.specs.WellFormed.{counts};
 ghost use Rattle.listing.specs.Listing.{none};
 ghost use Rattle.listing.specs.Work.{marks_of};
-ghost use Rattle.printer.specs.Contracts.{Prepared, Owned};
+ghost use Rattle.printer.specs.Contract.{Prepared, Owned};
 ghost use Rattle.printer.specs.Rows.{items_text};
 
 use printer::{measure, put_items};

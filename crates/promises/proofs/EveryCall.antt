@@ -2,7 +2,7 @@
 -- `ReadEnd` has the ways in which a read ends, `PrintEnd` those of a print, `NameEnd` those of a name (specs/Ends).
 -- That the public calls end, and with what the contracts say, is theirs; that no two answers satisfy these is `Unique` of crate peldarox.
 -- Assumes nothing.
-use Prim.Native.Nat.{ℕ, zero, suc, ◌+◌, ◌-◌, ◌*◌, ◌≤◌, ◌<◌}
+use Prim.Native.Nat.{ℕ, zero, suc, ◌-◌, ◌*◌, ◌≤◌, ◌<◌}
 use mathlib.Core.Path.{◌≡◌, refl, sym, ap, ◌∙◌}
 use mathlib.Core.Bool.{true, ◌&&◌}
 use mathlib.Core.List.{List, [], ◌++◌}

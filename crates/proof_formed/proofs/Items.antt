@@ -9,7 +9,6 @@ use native.Mathlib.Omega.{arith}
 use lib.Dec.{eqb}
 use borrow.Author.Tests.{eqb-true}
 use Rattle.rules.specs.declared.Item.{Item}
-use Rattle.rules.specs.declared.Statement.{Statement}
 use Rattle.rules.specs.Listing.{has}
 use Rattle.rules.specs.Rows.{item_length, statement_length, operand_length, attribute_length, name_at, item_at, statement_at, demanded_bits_code, harvested_from_use_code, right_hand_side}
 use Rattle.rules.specs.Syntax as syntax

@@ -7,7 +7,7 @@ use lib.ListN.{length, replicate, drop, take}
 use Rattle.rules.specs.Bytes.{inside}
 use Rattle.rules.specs.Rows.{item_at, operand_at}
 use Rattle.rules.specs.WellFormed.{counts, well_formed, short_text, tables_ok, table_ok, count_fits, word_fits, rest_unused, is_zero, rows_owned, statements_owned, operands_owned, attributes_owned, operand_spans, attribute_spans, kinds_ok, kind_ok, middle_ok, items_ok, item_ok, statements_ok, infer_ok, infers, closing_ok, closing_arity, roots_ok, attributes_ok, operands_ok, operand_ok, constant_ok, value_ok, width_fits, at_most}
-use Rattle.rules.specs.Stored.{in_words, in_bytes, trailer, tables_of, file_of, stored, Storing, refusing, writes, fitting_file, storing, trailer_word, lengths_of, in_order, whole_rows, shape, Room, roomy, Loading, refused, loads, accepting, content, loading}
+use Rattle.rules.specs.Stored.{in_words, in_bytes, tables_of, file_of, stored, refusing, writes, fitting_file, storing, trailer_word, lengths_of, in_order, whole_rows, shape, Room, roomy, refused, loads, accepting, content, loading}
 
 -- `cand 1 2`: its text, one item, no statement, two operands, no attribute
 cand_text : List ℕ

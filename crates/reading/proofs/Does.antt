@@ -1,7 +1,7 @@
 -- What a rule does to the world, whatever is counted of it: C k says what holds between the world where a rule starts and the one where it goes on, if it claims k rows
 -- of the kind that counts. Of the rules that claim none it says what they leave as it is.
 -- Assumes nothing.
-use Prim.Native.Nat.{ℕ, zero, suc, ◌-◌}
+use Prim.Native.Nat.{ℕ, zero, suc}
 use mathlib.Core.Bool.{Bool, cond, ◌||◌}
 use lib.Dec.{eqb, ltb}
 use Rattle.rules.specs.declared.Spot.{Spot}

@@ -11,7 +11,7 @@ use lib.ListN.{take, drop}
 use lib.Seq.{drop-drop}
 use Rattle.rules.specs.declared.Spot.{Spot}
 use Rattle.rules.specs.declared.Attribute.{Attribute}
-use Rattle.rules.specs.Bytes.{part, same, count}
+use Rattle.rules.specs.Bytes.{part, same}
 use Rattle.rules.specs.Faults as fault
 use Rattle.rules.specs.Keywords as keyword
 use Rattle.rules.specs.Tokens as kind

@@ -9,7 +9,7 @@ use lib.Dec.{eqb}
 use lib.ListN.{length}
 use Rattle.rules.specs.declared.Entry.{Entry}
 use Rattle.rules.specs.Syntax as syntax
-use Rattle.rules.specs.World.{World, Stand, Tables, Res, P, go, bind, many}
+use Rattle.rules.specs.World.{World, Stand, Tables, Res, P, go, many}
 use Rattle.rules.specs.Reading as rows
 use Rattle.rules.specs.Answers.{Lent, start}
 use Rattle.reading.proofs.Claims.{item_ahead-keeps, item_of_claims}

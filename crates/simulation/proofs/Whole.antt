@@ -13,7 +13,7 @@ use Rattle.rules.specs.declared.Entry.{Entry}
 use Rattle.rules.specs.Utf8.{checked}
 use Rattle.rules.specs.Syntax as syntax
 use Rattle.rules.specs.View.{each, items_of}
-use Rattle.rules.specs.World.{World, Tables, Res, go}
+use Rattle.rules.specs.World.{World, Tables, Res}
 use Rattle.rules.specs.Reading as rows
 use Rattle.rules.specs.Answers.{Lent, start, accepted, refusal, outcome, fault_number, read_checked, reading}
 use Rattle.rules.specs.Calls.{AsManyRows}

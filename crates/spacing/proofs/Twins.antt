@@ -19,7 +19,7 @@ use Rattle.rules.specs.declared.Attribute.{Attribute}
 use Rattle.rules.specs.Faults as fault
 use Rattle.rules.specs.Rows.{statement_words, attribute_words}
 use Rattle.rules.specs.Tokens.{token_at, nth}
-use Rattle.rules.specs.World.{Table, Tables, World, Res, go, stop, P, bind, ◌>>=◌, ◌>>◌, give, refuse, asks, scoped, claim_item, claim_statement, claim_operand, claim_attribute, repeated, many}
+use Rattle.rules.specs.World.{Table, Tables, World, Res, go, stop, P, bind, ◌>>=◌, give, refuse, asks, scoped, claim_item, claim_statement, claim_operand, claim_attribute, repeated, many}
 use Rattle.rules.specs.Reading as R
 use Rattle.spacing.specs.TokenList.{word_of}
 use Rattle.spacing.proofs.Sequence.{sort, kind_of, letters_in, Alike, nth-kind, nth-next}
