@@ -3,10 +3,12 @@
 # An edit has the lines of a must-fail edit ('file:', then pairs of 'old:' and 'new:'), and before them 'crate: NAME', whose definition is changed,
 # and 'breaks: NAME', whose theorems fail. What stands between the two must still be proved. The last line tells how many were refused; the status is 0 where all were.
 # With arguments only those edits are tried, by their labels. Up to RT_JOBS are tried at a time, by default as many as the machine has processors.
+# Each is tried in a copy outside the checkout, since `rt ci` refuses source that stands anywhere else in it; what was said of each stays in target/wrong-definitions.
 set -u
 cd "$(dirname "$0")/.." || exit 2
-root=$PWD
-place=$root/target/wrong-definitions
+logs=$PWD/target/wrong-definitions
+mkdir -p "$logs" && place=$(mktemp -d) || exit 2
+trap 'rm -rf "$place"' EXIT
 
 # The crates below one, itself the last, as crates.txt has them.
 below() {
@@ -44,29 +46,39 @@ apply() { # EDIT FOLDER
     done <"$1"
 }
 
-# Tries an edit, and leaves what is to be said of it in the file 'said' of its folder: a line that begins with 'refused' where it is refused.
+# Tries an edit, and leaves what is to be said of it in LABEL.said: a line that begins with 'refused' where it is refused.
 try() { # LABEL
-    local edit=.ci/wrong-definitions/$1.edit here=$place/$1 changed broken crates c
+    local edit=.ci/wrong-definitions/$1.edit here=$place/$1 log=$logs/$1.log said=$logs/$1.said changed broken crates c
     changed=$(sed -n 's/^crate: //p' "$edit")
     broken=$(sed -n 's/^breaks: //p' "$edit")
-    rm -rf "$here"
     mkdir -p "$here/crates"
     crates=$(below "$broken")
     for c in $crates; do
-        cp -R "crates/$c" "$here/crates/$c"
-        rm -rf "$here/crates/$c/must-fail"
+        mkdir "$here/crates/$c"
+        for part in src specs proofs; do
+            [ ! -d "crates/$c/$part" ] || cp -R "crates/$c/$part" "$here/crates/$c/$part"
+        done
         grep "^$c:" crates.txt >>"$here/crates.txt"
     done
-    echo 'BAD EDIT' >"$here/said"
-    apply "$edit" "$here/crates/$changed" || return
-    echo "NOT REFUSED by $broken" >"$here/said"
-    (cd "$here" && RT_JOBS=1 rt check) >"$here/log" 2>&1
+    echo 'BAD EDIT' >"$said"
+    : >"$log"
+    if apply "$edit" "$here/crates/$changed"; then
+        (cd "$here" && rt all check --jobs 1) >"$log" 2>&1
+        judge
+    fi
+    rm -rf "$here"
+}
+
+# What is to be said of an edit by its log: each crate below the broken one is proved, and that one is not, by an error in one of its own files.
+judge() {
+    local first
+    echo "NOT REFUSED by $broken" >"$said"
     for c in $crates; do
-        [ "$c" = "$broken" ] || grep -q "^rt: $c proved" "$here/log" || return
+        [ "$c" = "$broken" ] || grep -qx "$c: ok" "$log" || return
     done
-    grep -q "^rt: $broken proved" "$here/log" && return
-    grep -q '^logic=not-proved' "$here/log" || return
-    echo "refused, as it must be (first at $(grep -m 1 -o "crates/$broken/[^ ]*: error" "$here/log" | sed 's/: error$//'))" >"$here/said"
+    grep -qx "$broken: failed (1)" "$log" || return
+    first=$(sed -n "/^== $broken\$/,/^== summary\$/p" "$log" | grep -m 1 -E '^(\./[^ ]*: error|note: [^ ]*: it is not proved)' | cut -c1-200)
+    [ -z "$first" ] || echo "refused, as it must be: $first" >"$said"
 }
 
 # All edits by their labels, those first for which most crates are proved.
@@ -86,7 +98,7 @@ wait
 
 refused=0 failed=0
 for label in "$@"; do
-    said=$(cat "$place/$label/said")
+    said=$(cat "$logs/$label.said")
     echo "wrong definition $label: $said"
     case $said in
     refused*) refused=$((refused + 1)) ;;

@@ -1,4 +1,4 @@
-//! Links the proved library where it has been built: `rt staticlib peldarox` writes it to target/staticlib of the repository.
+//! Links the proved library where it has been built: rust/archive writes it to target/staticlib of the repository.
 //! PELDAROX_ARCHIVE names another archive. Without one for this machine, the crate and the model are compared alone.
 use std::{env, fs, path::Path, path::PathBuf};
 

@@ -1,4 +1,4 @@
-/* Reads a rule into lent tables and prints it. Build it in the repository's root, after `rt staticlib peldarox`:
+/* Reads a rule into lent tables and prints it. Build it in the repository's root, after rust/archive:
 
      gcc -Iinclude examples/print_rule.c target/staticlib/libpeldarox.a -o print_rule */
 

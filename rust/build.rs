@@ -1,5 +1,5 @@
-//! Links the proved library: `rt staticlib peldarox` writes it to target/staticlib of the repository, for x86-64; rust/archive does
-//! so for the machine's own processor. PELDAROX_ARCHIVE names another archive.
+//! Links the proved library: rust/archive writes it to target/staticlib of the repository, for x86-64. PELDAROX_ARCHIVE names
+//! another archive.
 use std::{env, path::Path, path::PathBuf, process::exit};
 
 fn main() {
@@ -10,10 +10,7 @@ fn main() {
     };
     println!("cargo:rerun-if-changed={}", archive.display());
     if !archive.is_file() {
-        eprintln!(
-            "{} is missing: run `rt staticlib peldarox`, or rust/archive on a machine that is no x86-64",
-            archive.display()
-        );
+        eprintln!("{} is missing: rust/archive proves and writes it", archive.display());
         exit(1);
     }
     println!("cargo:rustc-link-search=native={}", archive.parent().unwrap_or(Path::new(".")).display());

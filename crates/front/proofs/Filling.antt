@@ -7,7 +7,7 @@ use native.Mathlib.Omega.{arith}
 use lib.ListN.{length, length-drop}
 use lib.Seq.{length-take-le}
 use borrow.Rule.Slice.PartMut.{mid_of, put_mid, same_len_mid}
-use Rattle.io.specs.Counts.{IsPrefixLen}
+use Rattle.input.specs.Counts.{IsPrefixLen}
 use Rattle.io.proofs.Counting.{prefix_len_of_le}
 
 -- what is left of a text behind so many bytes

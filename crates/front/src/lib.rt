@@ -12,19 +12,20 @@ ghost use Rattle.rules.specs.Answers.{Reads};
 ghost use Rattle.front.specs.Told.{Tells};
 
 use rules::{Answer, Entry};
+use std::io::Read;
 
 // Prints what standard input lists, or says in a line why it is refused.
-pub fn run(entry: Entry) {
+pub fn run(from: &mut impl Read, out: &impl Print, err: &impl Print, entry: Entry) {
     let mut text = [0u8; 65537];
     let mut output = [0u8; 131072];
-    let input = console::fill(&mut text);
+    let input = console::fill(from, &mut text);
     if input.failed {
-        console::complain(b"standard input cannot be read\n");
+        console::complain(err, b"standard input cannot be read\n");
         return;
     }
     let n = input.bytes;
     let answer = print_text(entry, &text[..n], &mut output);
-    console::tell(answer, &output);
+    console::tell(out, err, answer, &output);
 }
 
 // The print of a text at the front of the output, and how long it is; or why it is refused.

@@ -4,30 +4,37 @@ ghost use Rattle.front_stored.specs.Told.{TellsPrint};
 
 use front::console;
 use rules::{Answer, LoadAnswer};
+use std::io::Read;
 
 // Prints the stored file that standard input is, or says in a line on standard error why it is refused.
-pub fn print() {
+pub fn print(from: &mut impl Read, out: &impl Print, err: &impl Print) {
     let mut file = [0u8; 2250114];
     let mut output = [0u8; 131072];
-    print_input(&mut file, &mut output);
+    print_input(from, out, err, &mut file, &mut output);
 }
 
 // The same, in a file and an output that are lent: 15 where the file has no byte to spare for what standard input holds.
-fn print_input(file: &mut [u8], output: &mut [u8]) {
-    let input = console::fill(file);
+fn print_input(
+    from: &mut impl Read,
+    out: &impl Print,
+    err: &impl Print,
+    file: &mut [u8],
+    output: &mut [u8],
+) {
+    let input = console::fill(from, file);
     if input.failed {
-        console::complain(b"standard input cannot be read\n");
+        console::complain(err, b"standard input cannot be read\n");
         return;
     }
     let n = input.bytes;
     if n == file.len() {
-        console::refuse(15, 0);
+        console::refuse(err, 15, 0);
         return;
     }
     match print_stored(&file[..n], output) {
-        Answer::Printed(bytes) => console::put_front(output, bytes),
-        Answer::Refused { number, place } => console::refuse(number, place),
-        Answer::Read { .. } => console::complain(b"a read is no print\n"),
+        Answer::Printed(bytes) => console::put_front(out, err, output, bytes),
+        Answer::Refused { number, place } => console::refuse(err, number, place),
+        Answer::Read { .. } => console::complain(err, b"a read is no print\n"),
     }
 }
 

@@ -4,25 +4,33 @@ ghost use Rattle.front_stored.specs.Told.{TellsFile};
 
 use front::{console, read};
 use rules::{Answer, Entry, StoreAnswer};
+use std::io::Read;
 
 // Writes the file of what standard input lists, or says in a line on standard error why it is refused.
-pub fn store(entry: Entry) {
+pub fn store(from: &mut impl Read, out: &impl Print, err: &impl Print, entry: Entry) {
     let mut text = [0u8; 65537];
     let mut output = [0u8; 2250113];
-    store_input(entry, &mut text, &mut output);
+    store_input(from, out, err, entry, &mut text, &mut output);
 }
 
 // The same, in a text and an output that are lent.
-fn store_input(entry: Entry, text: &mut [u8], output: &mut [u8]) {
-    let input = console::fill(text);
+fn store_input(
+    from: &mut impl Read,
+    out: &impl Print,
+    err: &impl Print,
+    entry: Entry,
+    text: &mut [u8],
+    output: &mut [u8],
+) {
+    let input = console::fill(from, text);
     if input.failed {
-        console::complain(b"standard input cannot be read\n");
+        console::complain(err, b"standard input cannot be read\n");
         return;
     }
     let n = input.bytes;
     match store_text(entry, &text[..n], output) {
-        StoreAnswer::Stored(bytes) => console::put_front(output, bytes),
-        StoreAnswer::Refused { number, place } => console::refuse(number, place),
+        StoreAnswer::Stored(bytes) => console::put_front(out, err, output, bytes),
+        StoreAnswer::Refused { number, place } => console::refuse(err, number, place),
     }
 }
 

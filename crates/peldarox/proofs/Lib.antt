@@ -1,6 +1,5 @@
 -- What the proofs share.
 pub mod Endings
-pub mod Arriving
 pub mod Unique
 pub mod UniqueLexing
 pub mod UniqueStores

@@ -1,10 +1,6 @@
 // The public calls. Nothing is asked of a caller: whatever is lent, each call ends with an answer of the table in docs/RULES.md, and its contract determines that
-// answer and every lent word. exports.rt, lex_exports.rt and stored_exports.rt have the same calls for C.
+// answer and every lent word. The crate peldarox_c has the same calls for C.
 #![tactic(auto)]
-
-pub mod exports;
-pub mod lex_exports;
-pub mod stored_exports;
 
 ghost use Rattle.std.specs.Prelude.{◌≡◌, List, ℕ, ◌≤◌, length, get_or};
 ghost use Rattle.rules.specs.Answers.{Ends, Reads, refusal, outcome, lent, fault_number, start as start_of};

@@ -3,6 +3,11 @@
 
 use rules::Entry;
 
-fn main() {
-    front::run(Entry::LeftHandSides);
+fn main(rt: HostRuntime) {
+    front::run(
+        &mut rt.stdin(),
+        &rt.stdout(),
+        &rt.stderr(),
+        Entry::LeftHandSides,
+    );
 }

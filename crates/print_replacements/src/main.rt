@@ -3,6 +3,11 @@
 
 use rules::Entry;
 
-fn main() {
-    front::run(Entry::Replacements);
+fn main(rt: HostRuntime) {
+    front::run(
+        &mut rt.stdin(),
+        &rt.stdout(),
+        &rt.stderr(),
+        Entry::Replacements,
+    );
 }

@@ -3,10 +3,10 @@
 #![tactic(auto)]
 
 ghost use Rattle.std.specs.Prelude.{◌≡◌, length};
-ghost use Rattle.io.specs.Counts.{IsPrefixLen};
+ghost use Rattle.input.specs.Counts.{IsPrefixLen};
 
-use libc::{STDERR_FILENO, STDIN_FILENO, STDOUT_FILENO};
 use rules::LexReport;
+use std::io::Read;
 use stream::Stream;
 
 // How many bytes a read brought, and whether it failed.
@@ -23,23 +23,23 @@ struct Fed {
     failed: bool,
 }
 
-fn main() {
-    let mut part = io::large_buffer();
-    let fed = feed(&mut part);
+fn main(rt: HostRuntime) {
+    let mut part = [0u8; 65536];
+    let fed = feed(&mut rt.stdin(), &mut part);
     if fed.failed {
-        complain(b"standard input cannot be read\n");
+        complain(&rt.stderr(), b"standard input cannot be read\n");
         return;
     }
     let state = fed.state;
-    tell(state.end());
+    tell(&rt.stdout(), &rt.stderr(), state.end());
 }
 
 // Feeds the lexer what each read brings, to the end of standard input.
-fn feed(part: &mut [u8]) -> Fed {
+fn feed<R: Read>(from: &mut R, part: &mut [u8]) -> Fed {
     let mut state = Stream::start();
     let mut parts: u64 = 0;
     while parts < 18446744073709551615 {
-        let got = read_part(part);
+        let got = read_part(from, part);
         let n = got.bytes;
         if n == 0 {
             return Fed {
@@ -57,42 +57,47 @@ fn feed(part: &mut [u8]) -> Fed {
 }
 
 // One read of standard input: no byte at its end, or where it fails.
-fn read_part(part: &mut [u8]) -> Got
+fn read_part<R: Read>(from: &mut R, part: &mut [u8]) -> Got
     ensures prefix_len { IsPrefixLen result.bytes part.new }
     ensures part_len_unchanged { length part.new ≡ length part.old }
 {
-    let got = libc::read(STDIN_FILENO, part);
-    Got {
-        bytes: io::count(got, part),
-        failed: got < 0,
+    match from.read(part) {
+        Ok(bytes) => Got {
+            bytes,
+            failed: false,
+        },
+        Err(_) => Got {
+            bytes: 0,
+            failed: true,
+        },
     }
 }
 
 // Writes a report as a line.
-fn tell(report: LexReport) {
+fn tell(out: &impl Print, err: &impl Print, report: LexReport) {
     if report.number == 0 {
-        put(b"tokens ");
-        io::print_decimal(STDOUT_FILENO, report.tokens as u64);
-        put(b"\n");
+        put(out, err, b"tokens ");
+        let _ = out.print(report.tokens as u64);
+        put(out, err, b"\n");
         return;
     }
-    put(b"refused ");
-    io::print_decimal(STDOUT_FILENO, report.number as u64);
-    put(b" at ");
-    io::print_decimal(STDOUT_FILENO, report.place);
-    put(b" after ");
-    io::print_decimal(STDOUT_FILENO, report.tokens as u64);
-    put(b" tokens\n");
+    put(out, err, b"refused ");
+    let _ = out.print(report.number as u64);
+    put(out, err, b" at ");
+    let _ = out.print(report.place);
+    put(out, err, b" after ");
+    let _ = out.print(report.tokens as u64);
+    put(out, err, b" tokens\n");
 }
 
 // Writes to standard output.
-fn put(bytes: &[u8]) {
-    if !io::write_all(STDOUT_FILENO, bytes) {
-        complain(b"standard output cannot be written\n");
+fn put(out: &impl Print, err: &impl Print, bytes: &[u8]) {
+    if out.write_all(bytes).is_err() {
+        complain(err, b"standard output cannot be written\n");
     }
 }
 
 // Says what failed.
-fn complain(what: &[u8]) {
-    io::write_all(STDERR_FILENO, what);
+fn complain(err: &impl Print, what: &[u8]) {
+    let _ = err.write_all(what);
 }

@@ -3,6 +3,11 @@
 
 use rules::Entry;
 
-fn main() {
-    front_stored::store(Entry::Replacements);
+fn main(rt: HostRuntime) {
+    front_stored::store(
+        &mut rt.stdin(),
+        &rt.stdout(),
+        &rt.stderr(),
+        Entry::Replacements,
+    );
 }

@@ -5,31 +5,29 @@
 mod prints;
 mod reads;
 
-use libc::STDIN_FILENO;
-
 // Reads up to 524,288 bytes of lines.
-fn main() {
+fn main(rt: HostRuntime) {
     let mut input = [0u8; 524288];
-    let n = io::read_full(STDIN_FILENO, &mut input);
-    replay_all(&input[..n]);
+    let n = input::read_full(&mut rt.stdin(), &mut input);
+    replay_all(&rt, &input[..n]);
 }
 
 // Replays line after line.
-fn replay_all(lines: &[u8]) {
+fn replay_all(rt: &impl Print, lines: &[u8]) {
     let mut i = 0;
     while i < lines.len() {
         let past = i + scan::line_len(&lines[i..]);
-        replay(&lines[i..past]);
+        replay(rt, &lines[i..past]);
         i = past + 1;
     }
 }
 
 // Answers the question of a line.
-fn replay(line: &[u8]) {
+fn replay(rt: &impl Print, line: &[u8]) {
     match vector_lines::letter(line, 0) {
-        b'P' => prints::replay_print(line),
-        b'D' => prints::replay_damaged(line),
-        b'N' => prints::replay_name(line),
-        _ => reads::replay_read(line),
+        b'P' => prints::replay_print(rt, line),
+        b'D' => prints::replay_damaged(rt, line),
+        b'N' => prints::replay_name(rt, line),
+        _ => reads::replay_read(rt, line),
     }
 }

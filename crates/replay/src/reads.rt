@@ -6,21 +6,24 @@ use rules::Answer;
 use vector_lines::{put, put_decimal};
 
 // Reads the text of a line and says what came of it.
-pub(crate) fn replay_read(line: &[u8]) {
+pub(crate) fn replay_read(rt: &impl Print, line: &[u8]) {
     let mut bytes = [0u8; 65537];
     let items = vector_lines::number(line, 2, 15);
     let statements = vector_lines::number(line, items.past, 15);
     let operands = vector_lines::number(line, statements.past, 15);
     let attributes = vector_lines::number(line, operands.past, 15);
     let n = vector_lines::text(line, attributes.past, &mut bytes);
-    tell(read_rows(
-        vector_lines::letter(line, 0),
-        &bytes[..n],
-        items.value,
-        statements.value,
-        operands.value,
-        attributes.value,
-    ));
+    tell(
+        rt,
+        read_rows(
+            vector_lines::letter(line, 0),
+            &bytes[..n],
+            items.value,
+            statements.value,
+            operands.value,
+            attributes.value,
+        ),
+    );
 }
 
 // What the entry point of a letter answers, with tables of so many rows.
@@ -65,7 +68,7 @@ pub(crate) fn read(
 }
 
 // Writes the answer of a read as a line.
-fn tell(answer: Answer) {
+fn tell(rt: &impl Print, answer: Answer) {
     match answer {
         Answer::Read {
             items,
@@ -73,22 +76,22 @@ fn tell(answer: Answer) {
             operands,
             attributes,
         } => {
-            put(b"0 0 ");
-            put_decimal(items as u64);
-            put(b" ");
-            put_decimal(statements as u64);
-            put(b" ");
-            put_decimal(operands as u64);
-            put(b" ");
-            put_decimal(attributes as u64);
-            put(b"\n");
+            put(rt, b"0 0 ");
+            put_decimal(rt, items as u64);
+            put(rt, b" ");
+            put_decimal(rt, statements as u64);
+            put(rt, b" ");
+            put_decimal(rt, operands as u64);
+            put(rt, b" ");
+            put_decimal(rt, attributes as u64);
+            put(rt, b"\n");
         }
         Answer::Refused { number, place } => {
-            put_decimal(number as u64);
-            put(b" ");
-            put_decimal(place);
-            put(b" 0 0 0 0\n");
+            put_decimal(rt, number as u64);
+            put(rt, b" ");
+            put_decimal(rt, place);
+            put(rt, b" 0 0 0 0\n");
         }
-        Answer::Printed(_) => put(b"no read\n"),
+        Answer::Printed(_) => put(rt, b"no read\n"),
     }
 }

@@ -1,6 +1,6 @@
 // The bytes that a line of the vectors spells.
 ghost use Rattle.std.specs.Prelude.{◌≤◌, ◌<◌, length};
-ghost use Rattle.io.specs.Counts.{IsPrefixLen};
+ghost use Rattle.input.specs.Counts.{IsPrefixLen};
 
 // A byte, and how many bytes of a line spell it.
 #[derive(Clone, Copy)]

@@ -3,9 +3,8 @@
 #![tactic(auto)]
 
 ghost use Rattle.std.specs.Prelude.{◌<◌};
-ghost use Rattle.io.specs.Counts.{IsPrefixLen};
+ghost use Rattle.input.specs.Counts.{IsPrefixLen};
 
-use libc::{STDIN_FILENO, STDOUT_FILENO};
 use rules::Checked;
 
 // The number that a hex digit stands for; 0 for any other byte.
@@ -32,38 +31,38 @@ fn read_hex(line: &[u8], bytes: &mut [u8]) -> usize
 }
 
 // Writes what a check found, as a line.
-fn tell(found: Checked) {
+fn tell(rt: &impl Print, found: Checked) {
     match found {
         Checked::WellFormed => {
-            io::write_all(STDOUT_FILENO, b"ok\n");
+            let _ = rt.write_all(b"ok\n");
         }
         Checked::IllFormed(place) => {
-            io::write_all(STDOUT_FILENO, b"bad ");
-            io::print_decimal(STDOUT_FILENO, place as u64);
-            io::write_all(STDOUT_FILENO, b"\n");
+            let _ = rt.write_all(b"bad ");
+            let _ = rt.print(place as u64);
+            let _ = rt.write_all(b"\n");
         }
     }
 }
 
 // Checks the bytes that a line writes.
-fn test(line: &[u8]) {
+fn test(rt: &impl Print, line: &[u8]) {
     let mut bytes = [0u8; 64];
     let n = read_hex(line, &mut bytes);
-    tell(utf8::check(&bytes[..n]));
+    tell(rt, utf8::check(&bytes[..n]));
 }
 
 // Checks line after line.
-fn test_all(text: &[u8]) {
+fn test_all(rt: &impl Print, text: &[u8]) {
     let mut i = 0;
     while i < text.len() {
         let n = scan::line_len(&text[i..]);
-        test(&text[i..i + n]);
+        test(rt, &text[i..i + n]);
         i += n + 1;
     }
 }
 
-fn main() {
-    let mut text = io::large_buffer();
-    let n = io::read_full(STDIN_FILENO, &mut text);
-    test_all(&text[..n]);
+fn main(rt: HostRuntime) {
+    let mut text = [0u8; 65536];
+    let n = input::read_full(&mut rt.stdin(), &mut text);
+    test_all(&rt, &text[..n]);
 }

@@ -1,10 +1,8 @@
-// The fields of a line that a program is asked by, and what it writes: numbers in decimal, bytes in hex digits.
+// The fields of a line that a program is asked by, and what it writes: numbers in decimal, bytes in hex digits. A write that fails is passed over.
 #![tactic(auto)]
 
 ghost use Rattle.std.specs.Prelude.{◌≤◌, ◌<◌, length};
-ghost use Rattle.io.specs.Counts.{IsPrefixLen};
-
-use libc::STDOUT_FILENO;
+ghost use Rattle.input.specs.Counts.{IsPrefixLen};
 
 // A number of a line, and where the next field begins.
 #[derive(Clone, Copy)]
@@ -79,25 +77,25 @@ pub fn least(a: usize, b: usize) -> usize
 }
 
 // Writes a number in decimal.
-pub fn put_decimal(n: u64) {
-    io::print_decimal(STDOUT_FILENO, n);
+pub fn put_decimal(rt: &impl Print, n: u64) {
+    let _ = rt.print(n);
 }
 
 // Writes bytes.
-pub fn put(bytes: &[u8]) {
-    io::write_all(STDOUT_FILENO, bytes);
+pub fn put(rt: &impl Print, bytes: &[u8]) {
+    let _ = rt.write_all(bytes);
 }
 
 // Writes the first `n` bytes, as far as there are, in hex digits.
-pub fn put_hex(bytes: &[u8], n: usize) {
+pub fn put_hex(rt: &impl Print, bytes: &[u8], n: usize) {
     let mut i = 0;
     while i < bytes.len() && i < n {
-        put_byte(bytes[i]);
+        put_byte(rt, bytes[i]);
         i += 1;
     }
 }
 
 // Writes a byte in two hex digits.
-fn put_byte(byte: u8) {
-    io::print_hex(STDOUT_FILENO, byte as u64, 2);
+fn put_byte(rt: &impl Print, byte: u8) {
+    let _ = print!(rt; "{byte:02x}");
 }

@@ -6,7 +6,7 @@ use rules::LoadAnswer;
 use vector_lines::{least, put, put_decimal};
 
 // A load of the file of a line.
-pub(crate) fn answer_load(line: &[u8]) {
+pub(crate) fn answer_load(rt: &impl Print, line: &[u8]) {
     let mut file = [0u8; 66000];
     let letters = vector_lines::number(line, 2, 66000);
     let items = vector_lines::number(line, letters.past, 200);
@@ -15,6 +15,7 @@ pub(crate) fn answer_load(line: &[u8]) {
     let attributes = vector_lines::number(line, operands.past, 200);
     let n = vector_lines::text(line, attributes.past, &mut file);
     load_within(
+        rt,
         &file[..n],
         letters.value,
         items.value,
@@ -25,7 +26,7 @@ pub(crate) fn answer_load(line: &[u8]) {
 }
 
 // Says what a load of a file into so much memory comes to.
-fn load_within(file: &[u8], t: usize, i: usize, s: usize, o: usize, a: usize)
+fn load_within(rt: &impl Print, file: &[u8], t: usize, i: usize, s: usize, o: usize, a: usize)
     requires t_bound { t ≤ 66000 }
     requires i_bound { i ≤ 200 }
     requires s_bound { s ≤ 200 }
@@ -42,11 +43,12 @@ fn load_within(file: &[u8], t: usize, i: usize, s: usize, o: usize, a: usize)
     let statements = &mut statements[..s];
     let operands = &mut operands[..o];
     let attributes = &mut attributes[..a];
-    load_into(file, text, items, statements, operands, attributes);
+    load_into(rt, file, text, items, statements, operands, attributes);
 }
 
 // Says what a load of a file into lent memory comes to.
 fn load_into(
+    rt: &impl Print,
     file: &[u8],
     text: &mut [u8],
     items: &mut [u32],
@@ -55,11 +57,19 @@ fn load_into(
     attributes: &mut [u32],
 ) {
     let answer = peldarox::load(file, text, items, statements, operands, attributes);
-    tell(answer, text, items, statements, operands, attributes);
+    tell(rt, answer, text, items, statements, operands, attributes);
 }
 
 // Writes the answer of a load, and what a store of what was loaded comes to, as a line.
-fn tell(answer: LoadAnswer, letters: &[u8], i: &[u32], s: &[u32], o: &[u32], a: &[u32]) {
+fn tell(
+    rt: &impl Print,
+    answer: LoadAnswer,
+    letters: &[u8],
+    i: &[u32],
+    s: &[u32],
+    o: &[u32],
+    a: &[u32],
+) {
     match answer {
         LoadAnswer::Loaded {
             text,
@@ -68,9 +78,10 @@ fn tell(answer: LoadAnswer, letters: &[u8], i: &[u32], s: &[u32], o: &[u32], a: 
             operands,
             attributes,
         } => {
-            put(b"0 ");
-            put_counts(text, items, statements, operands, attributes);
+            put(rt, b"0 ");
+            put_counts(rt, text, items, statements, operands, attributes);
             store_front(
+                rt,
                 letters,
                 text,
                 i,
@@ -83,27 +94,35 @@ fn tell(answer: LoadAnswer, letters: &[u8], i: &[u32], s: &[u32], o: &[u32], a: 
                 attributes as u64,
             );
         }
-        LoadAnswer::Refused { number, place } => tell_refusal(number, place),
+        LoadAnswer::Refused { number, place } => tell_refusal(rt, number, place),
     }
 }
 
 // Writes the bytes of a text and four counts, each with a space behind it.
-fn put_counts(text: u64, items: u32, statements: u32, operands: u32, attributes: u32) {
-    put_count(text);
-    put_count(items as u64);
-    put_count(statements as u64);
-    put_count(operands as u64);
-    put_count(attributes as u64);
+fn put_counts(
+    rt: &impl Print,
+    text: u64,
+    items: u32,
+    statements: u32,
+    operands: u32,
+    attributes: u32,
+) {
+    put_count(rt, text);
+    put_count(rt, items as u64);
+    put_count(rt, statements as u64);
+    put_count(rt, operands as u64);
+    put_count(rt, attributes as u64);
 }
 
 // Writes a number and a space.
-fn put_count(n: u64) {
-    put_decimal(n);
-    put(b" ");
+fn put_count(rt: &impl Print, n: u64) {
+    put_decimal(rt, n);
+    put(rt, b" ");
 }
 
 // Says what a store of the first bytes of a text and tables comes to.
 fn store_front(
+    rt: &impl Print,
     letters: &[u8],
     bytes: u64,
     i: &[u32],
@@ -116,6 +135,7 @@ fn store_front(
     attributes: u64,
 ) {
     store_within(
+        rt,
         &letters[..least(bytes as usize, letters.len())],
         i,
         s,

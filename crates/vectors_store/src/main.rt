@@ -8,29 +8,27 @@
 mod loads;
 mod stores;
 
-use libc::STDIN_FILENO;
-
 // Reads up to 524,288 bytes of lines.
-fn main() {
+fn main(rt: HostRuntime) {
     let mut input = [0u8; 524288];
-    let n = io::read_full(STDIN_FILENO, &mut input);
-    answer_all(&input[..n]);
+    let n = input::read_full(&mut rt.stdin(), &mut input);
+    answer_all(&rt, &input[..n]);
 }
 
 // Answers line after line.
-fn answer_all(lines: &[u8]) {
+fn answer_all(rt: &impl Print, lines: &[u8]) {
     let mut i = 0;
     while i < lines.len() {
         let past = i + scan::line_len(&lines[i..]);
-        answer(&lines[i..past]);
+        answer(rt, &lines[i..past]);
         i = past + 1;
     }
 }
 
 // Answers the question of a line.
-fn answer(line: &[u8]) {
+fn answer(rt: &impl Print, line: &[u8]) {
     match vector_lines::letter(line, 0) {
-        b'S' => stores::answer_store(line),
-        _ => loads::answer_load(line),
+        b'S' => stores::answer_store(rt, line),
+        _ => loads::answer_load(rt, line),
     }
 }

@@ -5,15 +5,15 @@ use rules::{Answer, StoreAnswer};
 use vector_lines::{put, put_decimal, put_hex};
 
 // A store of the replacements of a line.
-pub(crate) fn answer_store(line: &[u8]) {
+pub(crate) fn answer_store(rt: &impl Print, line: &[u8]) {
     let mut bytes = [0u8; 256];
     let room = vector_lines::number(line, 2, 1000);
     let n = vector_lines::text(line, room.past, &mut bytes);
-    store_text(&bytes[..n], room.value);
+    store_text(rt, &bytes[..n], room.value);
 }
 
 // Reads a text and says what a store into so many bytes comes to.
-fn store_text(text: &[u8], room: usize)
+fn store_text(rt: &impl Print, text: &[u8], room: usize)
     requires { room ≤ 1000 }
 {
     let mut i = [0u32; 135];
@@ -27,6 +27,7 @@ fn store_text(text: &[u8], room: usize)
             operands,
             attributes,
         } => store_within(
+            rt,
             text,
             &i,
             &s,
@@ -38,13 +39,14 @@ fn store_text(text: &[u8], room: usize)
             attributes as u64,
             room,
         ),
-        Answer::Refused { .. } => put(b"no read\n"),
-        Answer::Printed(_) => put(b"no read\n"),
+        Answer::Refused { .. } => put(rt, b"no read\n"),
+        Answer::Printed(_) => put(rt, b"no read\n"),
     }
 }
 
 // Says what a store of a text and tables into so many bytes comes to.
 pub(crate) fn store_within(
+    rt: &impl Print,
     text: &[u8],
     i: &[u32],
     s: &[u32],
@@ -61,12 +63,13 @@ pub(crate) fn store_within(
     let mut output = [0u8; 1000];
     let output = &mut output[..room];
     store_into(
-        text, i, s, o, a, items, statements, operands, attributes, output,
+        rt, text, i, s, o, a, items, statements, operands, attributes, output,
     );
 }
 
 // Says what a store of a text and tables into an output comes to.
 fn store_into(
+    rt: &impl Print,
     text: &[u8],
     i: &[u32],
     s: &[u32],
@@ -81,27 +84,27 @@ fn store_into(
     let answer = peldarox::store(
         text, i, s, o, a, items, statements, operands, attributes, output,
     );
-    tell(answer, output);
+    tell(rt, answer, output);
 }
 
 // Writes the answer of a store into an output as a line.
-fn tell(answer: StoreAnswer, output: &[u8]) {
+fn tell(rt: &impl Print, answer: StoreAnswer, output: &[u8]) {
     match answer {
         StoreAnswer::Stored(n) => {
-            put(b"0 ");
-            put_decimal(n);
-            put(b" ");
-            put_hex(output, n as usize);
-            put(b"\n");
+            put(rt, b"0 ");
+            put_decimal(rt, n);
+            put(rt, b" ");
+            put_hex(rt, output, n as usize);
+            put(rt, b"\n");
         }
-        StoreAnswer::Refused { number, place } => tell_refusal(number, place),
+        StoreAnswer::Refused { number, place } => tell_refusal(rt, number, place),
     }
 }
 
 // Writes a refusal as a line.
-pub(crate) fn tell_refusal(number: u32, place: u64) {
-    put_decimal(number as u64);
-    put(b" ");
-    put_decimal(place);
-    put(b"\n");
+pub(crate) fn tell_refusal(rt: &impl Print, number: u32, place: u64) {
+    put_decimal(rt, number as u64);
+    put(rt, b" ");
+    put_decimal(rt, place);
+    put(rt, b"\n");
 }

@@ -6,47 +6,46 @@ mod spelling;
 
 ghost use Rattle.std.specs.Prelude.{◌≤◌, length};
 
-use libc::{STDIN_FILENO, STDOUT_FILENO};
 use rules::LexReport;
 use stream::Stream;
 
 // Reads up to 131,072 bytes of lines.
-fn main() {
+fn main(rt: HostRuntime) {
     let mut input = [0u8; 131072];
-    let n = io::read_full(STDIN_FILENO, &mut input);
-    replay_all(&input[..n]);
+    let n = input::read_full(&mut rt.stdin(), &mut input);
+    replay_all(&rt, &input[..n]);
 }
 
 // Replays line after line.
-fn replay_all(lines: &[u8]) {
+fn replay_all(rt: &impl Print, lines: &[u8]) {
     let mut i = 0;
     while i < lines.len() {
         let past = i + scan::line_len(&lines[i..]);
-        replay(&lines[i..past]);
+        replay(rt, &lines[i..past]);
         i = past + 1;
     }
 }
 
 // Says what the text of a line comes to, as far as it has 65,600 bytes.
-fn replay(line: &[u8]) {
+fn replay(rt: &impl Print, line: &[u8]) {
     let mut text = [0u8; 65600];
     let n = spelling::spell(line, &mut text);
-    say(&text[..n]);
+    say(rt, &text[..n]);
 }
 
 // Says what a text comes to in all its cuts.
-fn say(text: &[u8]) {
+fn say(rt: &impl Print, text: &[u8]) {
     let report = stream::lex_at_once(text);
     if !cuts_alike(text, report) {
-        put(b"the cuts differ\n");
+        put(rt, b"the cuts differ\n");
         return;
     }
-    io::print_decimal(STDOUT_FILENO, report.tokens as u64);
-    put(b" ");
-    io::print_decimal(STDOUT_FILENO, report.number as u64);
-    put(b" ");
-    io::print_decimal(STDOUT_FILENO, report.place);
-    put(b"\n");
+    let _ = rt.print(report.tokens as u64);
+    put(rt, b" ");
+    let _ = rt.print(report.number as u64);
+    put(rt, b" ");
+    let _ = rt.print(report.place);
+    put(rt, b"\n");
 }
 
 // Whether every cutting of a text that is tried gives one report.
@@ -125,6 +124,6 @@ fn same(a: LexReport, b: LexReport) -> bool {
 }
 
 // Writes bytes.
-fn put(bytes: &[u8]) {
-    io::write_all(STDOUT_FILENO, bytes);
+fn put(rt: &impl Print, bytes: &[u8]) {
+    let _ = rt.write_all(bytes);
 }

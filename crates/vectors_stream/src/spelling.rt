@@ -1,7 +1,7 @@
 // The bytes that a line of the vectors spells: `\xHH` is a byte by its hexadecimal digits in capitals, `\rNNNNNB` the byte B so many times, five digits of
 // them; any other byte is itself.
 ghost use Rattle.std.specs.Prelude.{◌≤◌, ◌<◌, ◌≡◌, length};
-ghost use Rattle.io.specs.Counts.{IsPrefixLen};
+ghost use Rattle.input.specs.Counts.{IsPrefixLen};
 
 // A byte, how often it stands, and how many bytes of a line spell it.
 #[derive(Clone, Copy)]

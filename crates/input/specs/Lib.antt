@@ -1,0 +1,2 @@
+-- What the contracts on standard input cite.
+pub mod Counts

@@ -1,0 +1,163 @@
+// The public calls for C, as include/peldarox.h has them: a slice is a pointer and a count of elements, a report is six words of 64 bits.
+ghost use Rattle.std.specs.Prelude.{◌≡◌};
+ghost use Rattle.rules.specs.Answers.{report_of, Reports};
+ghost use Rattle.rules.specs.Prints.{PrintReports, name_part, name_report};
+ghost use Rattle.rules.specs.WellFormed.{counts};
+
+use peldarox::{read_left_hand_sides, read_replacements, read_right_hand_sides};
+use prints::{name_part, print};
+use rules::{Answer, Entry};
+
+// An answer as six words: number, place, counts of items, statements, operands, attributes.
+fn tell(answer: Answer, report: &mut [u64; 6])
+    ensures { report.new ≡ report_of answer }
+{
+    match answer {
+        Answer::Read {
+            items,
+            statements,
+            operands,
+            attributes,
+        } => {
+            *report = [
+                0,
+                0,
+                items as u64,
+                statements as u64,
+                operands as u64,
+                attributes as u64,
+            ];
+        }
+        Answer::Printed(n) => {
+            *report = [0, n, 0, 0, 0, 0];
+        }
+        Answer::Refused { number, place } => {
+            *report = [number as u64, place, 0, 0, 0, 0];
+        }
+    }
+}
+
+#[unsafe(no_mangle)]
+pub extern "C" fn peldarox_read_replacements(
+    text: &[u8],
+    items: &mut [u32],
+    statements: &mut [u32],
+    operands: &mut [u32],
+    attributes: &mut [u32],
+    report: &mut [u64; 6],
+)
+    ensures { Reports Entry.Replacements text.now items.old statements.old operands.old attributes.old report.new items.new statements.new operands.new attributes.new }
+{
+    tell(
+        read_replacements(text, items, statements, operands, attributes),
+        report,
+    );
+}
+
+#[unsafe(no_mangle)]
+pub extern "C" fn peldarox_read_left_hand_sides(
+    text: &[u8],
+    items: &mut [u32],
+    statements: &mut [u32],
+    operands: &mut [u32],
+    attributes: &mut [u32],
+    report: &mut [u64; 6],
+)
+    ensures { Reports Entry.LeftHandSides text.now items.old statements.old operands.old attributes.old report.new items.new statements.new operands.new attributes.new }
+{
+    tell(
+        read_left_hand_sides(text, items, statements, operands, attributes),
+        report,
+    );
+}
+
+#[unsafe(no_mangle)]
+pub extern "C" fn peldarox_read_right_hand_sides(
+    text: &[u8],
+    items: &mut [u32],
+    statements: &mut [u32],
+    operands: &mut [u32],
+    attributes: &mut [u32],
+    report: &mut [u64; 6],
+)
+    ensures { Reports Entry.RightHandSides text.now items.old statements.old operands.old attributes.old report.new items.new statements.new operands.new attributes.new }
+{
+    tell(
+        read_right_hand_sides(text, items, statements, operands, attributes),
+        report,
+    );
+}
+
+#[unsafe(no_mangle)]
+pub extern "C" fn peldarox_print(
+    text: &[u8],
+    items: &[u32],
+    statements: &[u32],
+    operands: &[u32],
+    attributes: &[u32],
+    item_count: u64,
+    statement_count: u64,
+    operand_count: u64,
+    attribute_count: u64,
+    work: &mut [u32],
+    output: &mut [u8],
+    report: &mut [u64; 6],
+)
+    ensures { PrintReports text.now items.now statements.now operands.now attributes.now (counts item_count statement_count operand_count attribute_count) work.old output.old report.new work.new output.new }
+{
+    tell(
+        print(
+            text,
+            items,
+            statements,
+            operands,
+            attributes,
+            item_count,
+            statement_count,
+            operand_count,
+            attribute_count,
+            work,
+            output,
+        ),
+        report,
+    );
+}
+
+// A name as six words: 0, its first byte, its length.
+#[unsafe(no_mangle)]
+pub extern "C" fn peldarox_name(
+    text: &[u8],
+    items: &[u32],
+    statements: &[u32],
+    operands: &[u32],
+    attributes: &[u32],
+    item_count: u64,
+    statement_count: u64,
+    operand_count: u64,
+    attribute_count: u64,
+    row: u64,
+    report: &mut [u64; 6],
+)
+    ensures { report.new ≡ name_report (name_part text.now items.now statements.now operands.now attributes.now (counts item_count statement_count operand_count attribute_count) row) }
+{
+    let part = name_part(
+        text,
+        items,
+        statements,
+        operands,
+        attributes,
+        item_count,
+        statement_count,
+        operand_count,
+        attribute_count,
+        row,
+    );
+    *report = [
+        0,
+        part.first as u64,
+        (part.past - part.first) as u64,
+        0,
+        0,
+        0,
+    ];
+}
