@@ -1,10 +1,9 @@
 -- What closes a `returns` whose clause goes by tests: `search nums`, `search tests`. The facts of the tests are found in what the need is handed.
 -- Assumes nothing.
-use Prim.Native.Nat.{ℕ, zero, ◌≤◌}
+use Prim.Native.Nat.{ℕ, ◌≤◌}
 use native.Mathlib.Omega.{arith}
 use mathlib.Core.Path.{◌≡◌, refl, sym, ◌∙◌}
 use mathlib.Core.Bool.{Bool, true, false, cond, false≢true, not, ◌&&◌, ◌||◌}
-use borrow.Author.Rules.{rules}
 use borrow.Author.Tests.{le-leb, lt-leb, le-ltb, lt-ltb, eq-eqb, ne_eqb, not-true, not-false}
 
 -- what a call's result is, and what a test says of that result

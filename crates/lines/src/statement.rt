@@ -114,7 +114,7 @@ fn put_assignment(
     requires code_value { is_condition row.code ≡ false }
     requires text_len_bound { length text.now ≤ 65536 }
     requires few { Few row.operands }
-    requires few_2 { Few row.attributes }
+    requires few_attributes { Few row.attributes }
     ensures { Wrote (line (as_statement text.now statements.now operands.now attributes.now row) []) out.old out.new result }
 {
     let mut n = put_letters(text, row.name, out);
@@ -197,7 +197,7 @@ pub fn put_line(
 ) -> usize
     requires text_len_bound { length text.now ≤ 65536 }
     requires few { Few (statement_at statements.now i).operands }
-    requires few_2 { Few (statement_at statements.now i).attributes }
+    requires few_attributes { Few (statement_at statements.now i).attributes }
     ensures { Wrote (line (statement_of text.now statements.now operands.now attributes.now i) []) out.old out.new result }
 {
     let row = statement_at(statements, i);

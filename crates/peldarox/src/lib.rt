@@ -166,7 +166,7 @@ fn read_indexed(
     entry: Entry,
 ) -> Answer
     requires text_len_bound { length text.now ≤ 65536 }
-    requires by_index { (h : ℕ) → get_or index.old h 0 ≡ 0 }
+    requires blank { (h : ℕ) → get_or index.old h 0 ≡ 0 }
     ensures { Ends (outcome (items_rule entry (start_of text.now (lent items.old statements.old operands.old attributes.old)))) items.old statements.old operands.old attributes.old result items.new statements.new operands.new attributes.new }
 {
     let s = items_of(

@@ -19,7 +19,7 @@ pub fn put_first_closing(
 ) -> usize
     requires text_len_bound { length text.now ≤ 65536 }
     requires few { Few item.operands }
-    requires few_2 { Few item.attributes }
+    requires few_attributes { Few item.attributes }
     ensures { Wrote (first_closing (as_closing text.now statements.now operands.now attributes.now item) []) out.old out.new result }
 {
     if item.kind == code::INFER_RESULT {

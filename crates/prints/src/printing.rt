@@ -25,7 +25,7 @@ fn print_items(
     output: &mut [u8],
 ) -> Answer
     requires owned { Owned items.now statements.now operands.now count rows }
-    requires by_index { (w : List ℕ) → length w ≡ length work.old → marks_of w rows ≡ none → Prepared text.now statements.now operands.now rows w }
+    requires prepared { (w : List ℕ) → length w ≡ length work.old → marks_of w rows ≡ none → Prepared text.now statements.now operands.now rows w }
     ensures { PrintEnds (fitting (items_text text.now items.now statements.now operands.now attributes.now count rows) (length output.old)) work.old output.old result work.new output.new }
 {
     clear(work, 0);

@@ -73,8 +73,8 @@ fn result(
 ) -> State
     requires text_len_bound { length text.now ≤ 65536 }
     requires ready { Ready text.now s statements.now index.now }
-    ensures by_index { (A : List ℕ) → stands text.now result items.new statements.now operands.new A ≡ run (stands text.now s items.old statements.now operands.old A) (R.result kind middle infer attributes) }
-    ensures ready_2 { Ready text.now result statements.now index.now }
+    ensures reads { (A : List ℕ) → stands text.now result items.new statements.now operands.new A ≡ run (stands text.now s items.old statements.now operands.old A) (R.result kind middle infer attributes) }
+    ensures stays_ready { Ready text.now result statements.now index.now }
 {
     let t = ident(text, s, keyword::RESULT);
     let u = operand(text, t, statements, index, operands);
@@ -98,8 +98,8 @@ fn cand(
 ) -> State
     requires text_len_bound { length text.now ≤ 65536 }
     requires ready { Ready text.now s statements.now index.now }
-    ensures attributes_after { stands text.now result items.new statements.now operands.new attributes.new ≡ run (stands text.now s items.old statements.now operands.old attributes.old) (R.cand middle) }
-    ensures ready_2 { Ready text.now result statements.now index.now }
+    ensures reads { stands text.now result items.new statements.now operands.new attributes.new ≡ run (stands text.now s items.old statements.now operands.old attributes.old) (R.cand middle) }
+    ensures stays_ready { Ready text.now result statements.now index.now }
 {
     let t = ident(text, s, keyword::CAND);
     let x = operand(text, t, statements, index, operands);
@@ -129,8 +129,8 @@ fn infer_and_result(
 ) -> State
     requires text_len_bound { length text.now ≤ 65536 }
     requires ready { Ready text.now s statements.old index.old }
-    ensures attributes_after { stands text.now result items.new statements.new operands.new attributes.new ≡ run (stands text.now s items.old statements.old operands.old attributes.old) (R.infer_and_result middle) }
-    ensures ready_2 { Ready text.now result statements.new index.new }
+    ensures reads { stands text.now result items.new statements.new operands.new attributes.new ≡ run (stands text.now s items.old statements.old operands.old attributes.old) (R.infer_and_result middle) }
+    ensures stays_ready { Ready text.now result statements.new index.new }
 {
     let v = infer(text, s, statements, index, attributes);
     let row = v.value;
@@ -166,8 +166,8 @@ fn replacement(
 ) -> State
     requires text_len_bound { length text.now ≤ 65536 }
     requires ready { Ready text.now s statements.old index.old }
-    ensures attributes_after { stands text.now result items.new statements.new operands.new attributes.new ≡ run (stands text.now s items.old statements.old operands.old attributes.old) R.replacement }
-    ensures ready_2 { Ready text.now result statements.new index.new }
+    ensures reads { stands text.now result items.new statements.new operands.new attributes.new ≡ run (stands text.now s items.old statements.old operands.old attributes.old) R.replacement }
+    ensures stays_ready { Ready text.now result statements.new index.new }
 {
     let t = statements_of(text, s, statements, index, operands, attributes);
     let middle = t.statements;
@@ -195,8 +195,8 @@ fn left_side(
 ) -> State
     requires text_len_bound { length text.now ≤ 65536 }
     requires ready { Ready text.now s statements.old index.old }
-    ensures attributes_after { stands text.now result items.new statements.new operands.new attributes.new ≡ run (stands text.now s items.old statements.old operands.old attributes.old) R.left_side }
-    ensures ready_2 { Ready text.now result statements.new index.new }
+    ensures reads { stands text.now result items.new statements.new operands.new attributes.new ≡ run (stands text.now s items.old statements.old operands.old attributes.old) R.left_side }
+    ensures stays_ready { Ready text.now result statements.new index.new }
 {
     let t = statements_of(text, s, statements, index, operands, attributes);
     let v = infer(text, t, statements, index, attributes);
@@ -233,8 +233,8 @@ fn right_side(
 ) -> State
     requires text_len_bound { length text.now ≤ 65536 }
     requires ready { Ready text.now s statements.old index.old }
-    ensures attributes_after { stands text.now result items.new statements.new operands.new attributes.new ≡ run (stands text.now s items.old statements.old operands.old attributes.old) R.right_side }
-    ensures ready_2 { Ready text.now result statements.new index.new }
+    ensures reads { stands text.now result items.new statements.new operands.new attributes.new ≡ run (stands text.now s items.old statements.old operands.old attributes.old) R.right_side }
+    ensures stays_ready { Ready text.now result statements.new index.new }
 {
     let t = statements_of(text, s, statements, index, operands, attributes);
     let notes = Span {
@@ -268,8 +268,8 @@ fn item(
 ) -> State
     requires text_len_bound { length text.now ≤ 65536 }
     requires ready { Ready text.now s statements.old index.old }
-    ensures attributes_after { stands text.now result items.new statements.new operands.new attributes.new ≡ run (stands text.now s items.old statements.old operands.old attributes.old) (R.item_of entry) }
-    ensures ready_2 { Ready text.now result statements.new index.new }
+    ensures reads { stands text.now result items.new statements.new operands.new attributes.new ≡ run (stands text.now s items.old statements.old operands.old attributes.old) (R.item_of entry) }
+    ensures stays_ready { Ready text.now result statements.new index.new }
 {
     match entry {
         Entry::Replacements => replacement(text, s, items, statements, index, operands, attributes),
@@ -300,8 +300,8 @@ pub fn items_of(
 ) -> State
     requires text_len_bound { length text.now ≤ 65536 }
     requires ready { Ready text.now s statements.old index.old }
-    ensures attributes_after { stands text.now result items.new statements.new operands.new attributes.new ≡ run (stands text.now s items.old statements.old operands.old attributes.old) (R.items entry) }
-    ensures ready_2 { Ready text.now result statements.new index.new }
+    ensures reads { stands text.now result items.new statements.new operands.new attributes.new ≡ run (stands text.now s items.old statements.old operands.old attributes.old) (R.items entry) }
+    ensures stays_ready { Ready text.now result statements.new index.new }
 {
     let mut t = lookahead(text, s);
     while item_ahead(t) {

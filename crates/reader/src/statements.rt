@@ -25,8 +25,8 @@ fn assignment(
 ) -> State
     requires text_len_bound { length text.now ≤ 65536 }
     requires ready { Ready text.now s statements.old index.now }
-    ensures by_index { (I : List ℕ) → stands text.now result I statements.new operands.new attributes.new ≡ run (stands text.now s I statements.old operands.old attributes.old) R.assignment }
-    ensures ready_2 { Ready text.now result statements.new index.now }
+    ensures reads { (I : List ℕ) → stands text.now result I statements.new operands.new attributes.new ≡ run (stands text.now s I statements.old operands.old attributes.old) R.assignment }
+    ensures stays_ready { Ready text.now result statements.new index.now }
 {
     let n = names::new_name(text, s, statements, index);
     let name = n.last;
@@ -73,8 +73,8 @@ fn condition(
 ) -> State
     requires text_len_bound { length text.now ≤ 65536 }
     requires ready { Ready text.now s statements.old index.now }
-    ensures by_index { (I : List ℕ) (A : List ℕ) → stands text.now result I statements.new operands.new A ≡ run (stands text.now s I statements.old operands.old A) (R.condition code number block) }
-    ensures ready_2 { Ready text.now result statements.new index.now }
+    ensures reads { (I : List ℕ) (A : List ℕ) → stands text.now result I statements.new operands.new A ≡ run (stands text.now s I statements.old operands.old A) (R.condition code number block) }
+    ensures stays_ready { Ready text.now result statements.new index.now }
 {
     let x = operand(text, s, statements, index, operands);
     let y = operand(text, x, statements, index, operands);
@@ -103,8 +103,8 @@ fn condition(
 fn pc(text: &[u8], s: State, statements: &mut [u32], index: &[u16], operands: &mut [u32]) -> State
     requires text_len_bound { length text.now ≤ 65536 }
     requires ready { Ready text.now s statements.old index.now }
-    ensures by_index { (I : List ℕ) (A : List ℕ) → stands text.now result I statements.new operands.new A ≡ run (stands text.now s I statements.old operands.old A) R.pc }
-    ensures ready_2 { Ready text.now result statements.new index.now }
+    ensures reads { (I : List ℕ) (A : List ℕ) → stands text.now result I statements.new operands.new A ≡ run (stands text.now s I statements.old operands.old A) R.pc }
+    ensures stays_ready { Ready text.now result statements.new index.now }
 {
     let t = token(text, s);
     condition(text, t, statements, index, operands, code::PC, 0, 0)
@@ -120,8 +120,8 @@ fn blockpc(
 ) -> State
     requires text_len_bound { length text.now ≤ 65536 }
     requires ready { Ready text.now s statements.old index.now }
-    ensures by_index { (I : List ℕ) (A : List ℕ) → stands text.now result I statements.new operands.new A ≡ run (stands text.now s I statements.old operands.old A) R.blockpc }
-    ensures ready_2 { Ready text.now result statements.new index.now }
+    ensures reads { (I : List ℕ) (A : List ℕ) → stands text.now result I statements.new operands.new A ≡ run (stands text.now s I statements.old operands.old A) R.blockpc }
+    ensures stays_ready { Ready text.now result statements.new index.now }
 {
     let b = names::block(text, token(text, s), statements, index);
     let n = int_32(text, b.state);
@@ -163,8 +163,8 @@ fn statement(
 ) -> State
     requires text_len_bound { length text.now ≤ 65536 }
     requires ready { Ready text.now s statements.old index.old }
-    ensures by_index { (I : List ℕ) → stands text.now result I statements.new operands.new attributes.new ≡ run (stands text.now s I statements.old operands.old attributes.old) R.statement }
-    ensures ready_2 { Ready text.now result statements.new index.new }
+    ensures reads { (I : List ℕ) → stands text.now result I statements.new operands.new attributes.new ≡ run (stands text.now s I statements.old operands.old attributes.old) R.statement }
+    ensures stays_ready { Ready text.now result statements.new index.new }
 {
     hold(text, statements, index, s.scope, s.statements);
     let t = lookahead(text, s);
@@ -189,8 +189,8 @@ pub fn statements_of(
 ) -> State
     requires text_len_bound { length text.now ≤ 65536 }
     requires ready { Ready text.now s statements.old index.old }
-    ensures by_index { (I : List ℕ) → stands text.now result I statements.new operands.new attributes.new ≡ run (stands text.now s I statements.old operands.old attributes.old) R.statements }
-    ensures ready_2 { Ready text.now result statements.new index.new }
+    ensures reads { (I : List ℕ) → stands text.now result I statements.new operands.new attributes.new ≡ run (stands text.now s I statements.old operands.old attributes.old) R.statements }
+    ensures stays_ready { Ready text.now result statements.new index.new }
 {
     let mut t = lookahead(text, s);
     while statement_ahead(text, t) {

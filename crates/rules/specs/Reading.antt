@@ -1,15 +1,11 @@
 -- Sections 2, 3 and 5 of docs/RULES.md. Reading: the grammar, rule by rule, in the order of the crate's parser; which names are in scope; when rows are claimed.
 -- Assumes nothing.
-use Rattle.std.specs.Prelude.{ℕ, zero, suc, ◌+◌, ◌-◌, min, Bool, true, false, cond, not, ◌&&◌, ◌||◌, List, [], ◌∷◌, eqb, leb, ltb, length}
+use Rattle.std.specs.Prelude.{ℕ, zero, suc, ◌+◌, ◌-◌, min, Bool, true, cond, not, ◌&&◌, ◌||◌, List, [], ◌∷◌, eqb, leb, ltb, length}
 use Rattle.rules.specs.declared.Token.{Token}
 use Rattle.rules.specs.declared.Lexed.{Lexed}
 use Rattle.rules.specs.declared.Lexed.TheVariants.{Found, End, Refused}
 use Rattle.rules.specs.declared.Spot.{Spot}
 use Rattle.rules.specs.declared.Span.{Span}
-use Rattle.rules.specs.declared.Words.{Words}
-use Rattle.rules.specs.declared.Item.{Item}
-use Rattle.rules.specs.declared.Statement.{Statement}
-use Rattle.rules.specs.declared.Operand.{Operand}
 use Rattle.rules.specs.declared.Attribute.{Attribute}
 use Rattle.rules.specs.declared.Row.{Row}
 use Rattle.rules.specs.declared.Row.TheVariants.{At, Missing}
@@ -23,8 +19,8 @@ use Rattle.rules.specs.Integers.{Read, number, refused, integer, fits, type_widt
 use Rattle.rules.specs.Instructions.{instruction_of, arity_of, keyword_of}
 use Rattle.rules.specs.Keywords as keyword
 use Rattle.rules.specs.Faults as fault
-use Rattle.rules.specs.Rows.{◌up_to◌, words_of, name_at, statement_at, instruction_code, keyword_code, value_code, constant_code, known_bits_code, sign_bits_code, range_code, demanded_bits_code, harvested_from_use_code, infer_result, candidate, left_hand_side, right_hand_side}
-use Rattle.rules.specs.World.{World, Stand, Res, go, stop, P, ◌>>=◌, ◌>>◌, give, refuse, asks, standing, scoped, claim_item, claim_statement, claim_operand, claim_attribute, statement_count, operand_count, attribute_count, many}
+use Rattle.rules.specs.Rows.{◌up_to◌, words_of, name_at, statement_at, instruction_code, keyword_code, value_code, constant_code, known_bits_code, sign_bits_code, range_code, demanded_bits_code, infer_result, candidate, left_hand_side, right_hand_side}
+use Rattle.rules.specs.World.{World, go, stop, P, ◌>>=◌, ◌>>◌, give, refuse, asks, standing, scoped, claim_item, claim_statement, claim_operand, claim_attribute, statement_count, operand_count, attribute_count, many}
 
 -- Tokens
 

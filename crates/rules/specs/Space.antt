@@ -1,6 +1,6 @@
 -- Section 1 of docs/RULES.md. White space and comments.
 -- Assumes nothing.
-use Rattle.std.specs.Prelude.{ℕ, suc, ◌+◌, Bool, true, false, cond, ◌&&◌, ◌||◌, List, [], ◌∷◌, eqb, leb}
+use Rattle.std.specs.Prelude.{ℕ, suc, Bool, false, cond, ◌&&◌, ◌||◌, List, [], ◌∷◌, eqb, leb}
 use Rattle.rules.specs.declared.Range.{Range}
 use Rattle.rules.specs.Bytes.{byte, inside, count, far, line_byte}
 use Rattle.rules.specs.Utf8.{◌to◌, seq_len, code_point}

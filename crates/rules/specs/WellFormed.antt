@@ -1,7 +1,7 @@
 -- Section 6 of docs/RULES.md. Which tables are well formed: each clause a test with a sentence of its own, and `well_formed` all of them. Of a test against 0 the clause is "unused words 0".
 -- They stand in the order in which they are tested: spans of rows are known to lie one behind the other before anything goes along them.
 -- Assumes nothing.
-use Rattle.std.specs.Prelude.{ℕ, ◌+◌, ◌-◌, ◌*◌, ◌^◌, Bool, true, cond, not, ◌&&◌, ◌||◌, List, [], ◌∷◌, ◌++◌, eqb, leb, ltb, length, get_or, drop}
+use Rattle.std.specs.Prelude.{ℕ, ◌-◌, ◌*◌, ◌^◌, Bool, true, cond, not, ◌&&◌, ◌||◌, List, [], ◌∷◌, ◌++◌, eqb, leb, ltb, length, get_or, drop}
 use Rattle.rules.specs.declared.Span.{Span}
 use Rattle.rules.specs.declared.Words.{Words}
 use Rattle.rules.specs.declared.Item.{Item}

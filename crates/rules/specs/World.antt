@@ -1,6 +1,6 @@
 -- Section 5 of docs/RULES.md. What reading goes on in: the text, where the reader stands, the scope, and the four tables. A rule of the grammar is a parser over it.
 -- Assumes nothing.
-use Rattle.std.specs.Prelude.{ℕ, zero, suc, ◌+◌, Bool, cond, List, [], ◌∷◌, ◌++◌, ltb}
+use Rattle.std.specs.Prelude.{ℕ, zero, suc, ◌+◌, Bool, cond, List, ◌++◌, ltb}
 use Rattle.rules.specs.declared.Spot.{Spot}
 use Rattle.rules.specs.declared.Item.{Item}
 use Rattle.rules.specs.declared.Statement.{Statement}

@@ -50,8 +50,8 @@ pub fn nothing() -> Spot
 
 // The state at the start of a text: no row is claimed.
 pub fn start() -> State
-    ensures fault_value { result.fault ≡ 0 }
-    ensures by_index { (text : List ℕ) (I : List ℕ) (S : List ℕ) (O : List ℕ) (A : List ℕ) → world text result I S O A ≡ answers.start text (lent I S O A) }
+    ensures no_fault { result.fault ≡ 0 }
+    ensures begins { (text : List ℕ) (I : List ℕ) (S : List ℕ) (O : List ℕ) (A : List ℕ) → world text result I S O A ≡ answers.start text (lent I S O A) }
 {
     let none = nothing();
     State {

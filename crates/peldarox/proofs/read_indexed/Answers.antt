@@ -7,12 +7,12 @@ use Rattle.peldarox.proofs.read_indexed.Goals as goal
 
 pub items_of-s-requires : goal.items_of-s-requires
 items_of-s-requires c =
-    record { text_len_bound = c.requires.text_len_bound; ready = ready-begins _ _ _ _ (c.start.ensures.by_index _ [] _ [] []) c.requires.by_index }
+    record { text_len_bound = c.requires.text_len_bound; ready = ready-begins _ _ _ _ (c.start.ensures.begins _ [] _ [] []) c.requires.blank }
 
 pub returns : goal.returns
 returns c =
     let kept = c.items_of-s.auto in
     endings.same_ends _ _ _ _ _ _ _ _ _ _ _ _
-    (endings.from_start _ _ _ _ _ _ _ _ _ _ _ _ c.start.ensures.fault_value (c.start.ensures.by_index _ _ _ _ _) c.items_of-s.ensures.attributes_after)
+    (endings.from_start _ _ _ _ _ _ _ _ _ _ _ _ c.start.ensures.no_fault (c.start.ensures.begins _ _ _ _ _) c.items_of-s.ensures.reads)
     kept.items kept.statements kept.operands kept.attributes
     (c.finish.ensures _)

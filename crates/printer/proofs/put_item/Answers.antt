@@ -22,7 +22,7 @@ pub slice_bounds-put_first_closing-end : goal.slice_bounds-put_first_closing-end
 slice_bounds-put_first_closing-end c = le_refl _
 
 pub put_first_closing-n-requires : goal.put_first_closing-n-requires
-put_first_closing-n-requires c = record { text_len_bound = c.requires.prepared.short; few = c.requires.own.operands; few_2 = c.requires.own.attributes }
+put_first_closing-n-requires c = record { text_len_bound = c.requires.prepared.short; few = c.requires.own.operands; few_attributes = c.requires.own.attributes }
 
 pub overflow_add-n : goal.overflow_add-n
 overflow_add-n c =

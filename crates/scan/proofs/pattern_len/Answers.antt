@@ -1,4 +1,3 @@
-use Prim.Native.Nat.{◌-◌}
 use native.Mathlib.Omega.{arith}
 use Rattle.rules.specs.Bytes.{pattern_byte}
 use Rattle.laws.proofs.Runs.{count_more, count-stop, count-end}

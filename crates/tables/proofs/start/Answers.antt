@@ -7,4 +7,4 @@ use Rattle.tables.proofs.start.Goals as goal
 
 pub returns : goal.returns
 unfolding world answers.start
-returns c = record { fault_value = refl; by_index = λ text I S O A. simp c.nothing-none.ensures }
+returns c = record { no_fault = refl; begins = λ text I S O A. simp c.nothing-none.ensures }

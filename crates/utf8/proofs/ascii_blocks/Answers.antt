@@ -1,4 +1,3 @@
-use Prim.Native.Nat.{◌-◌}
 use borrow.Author.Rules.{rules}
 use Rattle.laws.proofs.Tests.{said}
 use Rattle.utf8.proofs.Ascii.{begins_none, begins-block}

@@ -1,4 +1,3 @@
-use Prim.Native.Nat.{◌-◌}
 use borrow.Author.Rules.{rules}
 use Rattle.utf8.specs.Ascii.{ascii}
 use Rattle.utf8.proofs.Ascii.{begins-byte, begins-stop, begins-end}

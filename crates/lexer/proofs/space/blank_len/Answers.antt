@@ -1,7 +1,6 @@
 -- `blank_len` meets its contract. The loop's invariant: the whole gap is i bytes and the gap of what follows them.
 -- Assumes nothing.
 use mathlib.Core.Path.{refl, ap, ◌∙◌}
-use Prim.Native.Nat.{◌-◌}
 use native.Mathlib.Omega.{arith}
 use lib.ListN.{get_or-eq_default}
 use Rattle.rules.specs.Bytes.{inside}

@@ -1,7 +1,6 @@
 -- `is_white` meets its contract. The loop's invariant: the ranges from the k-th on decide.
 -- Assumes nothing.
 use mathlib.Core.Path.{◌≡◌, refl, sym, ◌∙◌}
-use Prim.Native.Nat.{◌-◌}
 use native.Mathlib.Omega.{arith}
 use Rattle.rules.specs.Space.{white, spaces}
 use Rattle.laws.proofs.Runs.{in-more}

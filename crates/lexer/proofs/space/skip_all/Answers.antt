@@ -1,6 +1,5 @@
 -- `skip_all` meets its contract. The loop's invariant: the whole gap is i bytes and the gap of what follows them.
 -- Assumes nothing.
-use Prim.Native.Nat.{◌-◌}
 use native.Mathlib.Omega.{arith}
 use Rattle.rules.specs.Space.{skip_len}
 use Rattle.laws.proofs.Runs.{far_more, far-end, far-stop, far-fits}

@@ -31,7 +31,7 @@ slice_bounds-put_line-end c = le_refl _
 pub put_line-n-requires : goal.put_line-n-requires
 put_line-n-requires c =
     let h = subst (Advanced _ _ _ _ _ _) c.in-Row.is c.advance-step.ensures in
-    record { text_len_bound = c.requires.prepared.short; few = c.requires.prepared.operands _ h.counted; few_2 = c.requires.prepared.attributes _ h.counted }
+    record { text_len_bound = c.requires.prepared.short; few = c.requires.prepared.operands _ h.counted; few_attributes = c.requires.prepared.attributes _ h.counted }
 
 pub overflow_add-n : goal.overflow_add-n
 overflow_add-n c =

@@ -31,7 +31,7 @@ overflow_cast-statement_count c = let small = counts_small _ _ _ _ _ _ (said_not
 
 pub print_items-requires : goal.print_items-requires
 unfolding words_needed
-print_items-requires c = record { owned = items-owned _ _ _ _ _ _ (said_not_not c.well_formed-2.ensures c.if-not-well_formed.false-raw); by_index = λ w long clear. tables-prepared _ _ _ _ _ _ (said_not_not c.well_formed-2.ensures c.if-not-well_formed.false-raw) w (omega (arith, long)) clear }
+print_items-requires c = record { owned = items-owned _ _ _ _ _ _ (said_not_not c.well_formed-2.ensures c.if-not-well_formed.false-raw); prepared = λ w long clear. tables-prepared _ _ _ _ _ _ (said_not_not c.well_formed-2.ensures c.if-not-well_formed.false-raw) w (omega (arith, long)) clear }
 
 pub returns : goal.returns
 unfolding words_needed

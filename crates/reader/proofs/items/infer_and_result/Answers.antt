@@ -19,7 +19,7 @@ statements_of-u-requires c =
     record { text_len_bound = c.requires.text_len_bound; ready = ready-kept infer_steady _ _ _ [] S [] A [] [] _ index _ (c.infer-v.ensures [] []) c.requires.ready }
 
 pub result-requires : goal.result-requires
-result-requires c = record { text_len_bound = c.requires.text_len_bound; ready = c.statements_of-u.ensures.ready_2 }
+result-requires c = record { text_len_bound = c.requires.text_len_bound; ready = c.statements_of-u.ensures.stays_ready }
 
 pub returns : goal.returns
 unfolding R.infer_and_result world
@@ -29,8 +29,8 @@ returns c =
     let O = c.args.operands.now in
     let A = c.args.attributes.now in
     let B = c.infer-v.new.attributes in
-    let E = c.statements_of-u.new.attributes in record { attributes_after = chain.seen _ _ I S O A _ _ _
+    let E = c.statements_of-u.new.attributes in record { reads = chain.seen _ _ I S O A _ _ _
           (chain.then _ _ _ _ _ _ _ _ _ _ _ (c.infer-v.ensures I O)
           (chain.seen _ _ I S O B _ _ _
-          (chain.then _ _ _ _ _ _ _ _ _ _ _ (c.statements_of-u.ensures.by_index I)
-          (c.result.ensures.by_index E)))); ready_2 = c.result.ensures.ready_2 }
+          (chain.then _ _ _ _ _ _ _ _ _ _ _ (c.statements_of-u.ensures.reads I)
+          (c.result.ensures.reads E)))); stays_ready = c.result.ensures.stays_ready }

@@ -14,12 +14,12 @@ right_side-requires c = record { text_len_bound = c.requires.text_len_bound; rea
 
 pub returns-in-Replacements : goal.returns-in-Replacements
 unfolding R.item_of
-returns-in-Replacements c = record { attributes_after = rw c.in-Replacements.is c.replacement.ensures.attributes_after; ready_2 = c.replacement.ensures.ready_2 }
+returns-in-Replacements c = record { reads = rw c.in-Replacements.is c.replacement.ensures.reads; stays_ready = c.replacement.ensures.stays_ready }
 
 pub returns-in-LeftHandSides : goal.returns-in-LeftHandSides
 unfolding R.item_of
-returns-in-LeftHandSides c = record { attributes_after = rw c.in-LeftHandSides.is c.left_side.ensures.attributes_after; ready_2 = c.left_side.ensures.ready_2 }
+returns-in-LeftHandSides c = record { reads = rw c.in-LeftHandSides.is c.left_side.ensures.reads; stays_ready = c.left_side.ensures.stays_ready }
 
 pub returns-in-RightHandSides : goal.returns-in-RightHandSides
 unfolding R.item_of
-returns-in-RightHandSides c = record { attributes_after = rw c.in-RightHandSides.is c.right_side.ensures.attributes_after; ready_2 = c.right_side.ensures.ready_2 }
+returns-in-RightHandSides c = record { reads = rw c.in-RightHandSides.is c.right_side.ensures.reads; stays_ready = c.right_side.ensures.stays_ready }

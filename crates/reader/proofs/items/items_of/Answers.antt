@@ -27,16 +27,16 @@ lookahead-t-requires-in-loop-entry c = c.requires.text_len_bound
 pub loop-entry-smaller : goal.loop-entry-smaller
 loop-entry-smaller c =
     let h = sym c.item_ahead.ensures ∙ c.loop-entry-test.true in
-    item_of_falls _ _ _ _ _ _ _ _ _ _ _ _ _ (eqb-true _ _ (and_left _ _ h)) c.item-t.ensures.attributes_after (c.lookahead-t-in-loop-entry.ensures _ _ _ _)
+    item_of_falls _ _ _ _ _ _ _ _ _ _ _ _ _ (eqb-true _ _ (and_left _ _ h)) c.item-t.ensures.reads (c.lookahead-t-in-loop-entry.ensures _ _ _ _)
 
 pub loop-entry-preserved : goal.loop-entry-preserved
 loop-entry-preserved c =
     (
       (omega (arith, c.item-t.auto), omega (arith, c.item-t.auto), omega (arith, c.item-t.auto), omega (arith, c.item-t.auto), omega (arith, c.item-t.auto)),
-      ready-kept lookahead_steady _ _ _ [] _ [] [] [] [] [] _ _ (c.lookahead-t-in-loop-entry.ensures [] _ [] []) c.item-t.ensures.ready_2,
-      c.loop-entry.invariant.2 ∙ items-again _ _ _ _ _ _ _ _ _ _ _ _ _ (sym c.item_ahead.ensures ∙ c.loop-entry-test.true) c.item-t.ensures.attributes_after (c.lookahead-t-in-loop-entry.ensures _ _ _ _),
+      ready-kept lookahead_steady _ _ _ [] _ [] [] [] [] [] _ _ (c.lookahead-t-in-loop-entry.ensures [] _ [] []) c.item-t.ensures.stays_ready,
+      c.loop-entry.invariant.2 ∙ items-again _ _ _ _ _ _ _ _ _ _ _ _ _ (sym c.item_ahead.ensures ∙ c.loop-entry-test.true) c.item-t.ensures.reads (c.lookahead-t-in-loop-entry.ensures _ _ _ _),
     )
 
 pub returns : goal.returns
 returns c =
-    record { attributes_after = items_done _ _ _ _ _ _ _ (sym c.item_ahead.ensures ∙ c.loop-entry-test.false) ∙ sym c.loop-entry.invariant.2 ∙ sym (items_look _ _ _ _ _ _ _ _ (c.lookahead-t.ensures _ _ _ _)); ready_2 = c.loop-entry.invariant.1 }
+    record { reads = items_done _ _ _ _ _ _ _ (sym c.item_ahead.ensures ∙ c.loop-entry-test.false) ∙ sym c.loop-entry.invariant.2 ∙ sym (items_look _ _ _ _ _ _ _ _ (c.lookahead-t.ensures _ _ _ _)); stays_ready = c.loop-entry.invariant.1 }

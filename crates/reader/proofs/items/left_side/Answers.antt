@@ -12,7 +12,7 @@ pub statements_of-t-requires : goal.statements_of-t-requires
 statements_of-t-requires c = record { text_len_bound = c.requires.text_len_bound; ready = c.requires.ready }
 
 pub infer-v-requires : goal.infer-v-requires
-infer-v-requires c = record { text_len_bound = c.requires.text_len_bound; ready = c.statements_of-t.ensures.ready_2 }
+infer-v-requires c = record { text_len_bound = c.requires.text_len_bound; ready = c.statements_of-t.ensures.stays_ready }
 
 pub returns : goal.returns
 unfolding R.left_side world
@@ -22,10 +22,10 @@ returns c =
     let O = c.statements_of-t.new.operands in
     let A = c.statements_of-t.new.attributes in
     let B = c.infer-v.new.attributes in
-    let k = ready-kept infer_steady _ _ _ [] S [] A [] [] B _ _ (c.infer-v.ensures [] []) c.statements_of-t.ensures.ready_2 in record { attributes_after = chain.then _ _ _ _ _ _ _ _ _ _ _ (c.statements_of-t.ensures.by_index I)
+    let k = ready-kept infer_steady _ _ _ [] S [] A [] [] B _ _ (c.infer-v.ensures [] []) c.statements_of-t.ensures.stays_ready in record { reads = chain.then _ _ _ _ _ _ _ _ _ _ _ (c.statements_of-t.ensures.reads I)
           (chain.seen _ _ I S O A _ _ _
           (chain.seen _ _ I S O A _ _ _
           (chain.then _ _ _ _ _ _ _ _ _ _ _ (c.infer-v.ensures I O)
           (chain.seen _ _ I S O B _ _ _
           (chain.seen _ _ I S O B _ _ _
-          (c.close_item.ensures _ S O B)))))); ready_2 = ready-closed _ _ _ _ S [] [] _ _ _ _ _ _ _ (c.close_item.ensures _ S [] []) k }
+          (c.close_item.ensures _ S O B)))))); stays_ready = ready-closed _ _ _ _ S [] [] _ _ _ _ _ _ _ (c.close_item.ensures _ S [] []) k }

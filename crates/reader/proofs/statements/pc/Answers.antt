@@ -18,4 +18,4 @@ unfolding R.pc
 returns c =
     let S = c.args.statements.now in
     let O = c.args.operands.now in
-    record { by_index = λ I A. chain.then _ _ _ _ _ _ _ _ _ _ _ (c.token-t.ensures I S O A) (c.condition.ensures.by_index I A); ready_2 = c.condition.ensures.ready_2 }
+    record { reads = λ I A. chain.then _ _ _ _ _ _ _ _ _ _ _ (c.token-t.ensures I S O A) (c.condition.ensures.reads I A); stays_ready = c.condition.ensures.stays_ready }

@@ -32,16 +32,16 @@ lookahead-t-requires-in-loop-statements c =
 pub loop-statements-smaller : goal.loop-statements-smaller
 loop-statements-smaller c =
     let h = sym c.statement_ahead.ensures ∙ c.loop-statements-test.true in
-    statement_falls _ _ _ _ [] _ _ _ [] _ _ _ (eqb-true _ _ (and_left _ _ h)) (c.statement-t.ensures.by_index []) (c.lookahead-t-in-loop-statements.ensures [] _ _ _)
+    statement_falls _ _ _ _ [] _ _ _ [] _ _ _ (eqb-true _ _ (and_left _ _ h)) (c.statement-t.ensures.reads []) (c.lookahead-t-in-loop-statements.ensures [] _ _ _)
 
 pub loop-statements-preserved : goal.loop-statements-preserved
 loop-statements-preserved c =
     (
       (omega (arith, c.statement-t.auto), omega (arith, c.statement-t.auto), omega (arith, c.statement-t.auto), omega (arith, c.statement-t.auto)),
-      ready-kept lookahead_steady _ _ _ [] _ [] [] [] [] [] _ _ (c.lookahead-t-in-loop-statements.ensures [] _ [] []) c.statement-t.ensures.ready_2,
-      λ I. c.loop-statements.invariant.2 I ∙ statements-again _ _ _ _ I _ _ _ I _ _ _ (sym c.statement_ahead.ensures ∙ c.loop-statements-test.true) (c.statement-t.ensures.by_index I) (c.lookahead-t-in-loop-statements.ensures I _ _ _),
+      ready-kept lookahead_steady _ _ _ [] _ [] [] [] [] [] _ _ (c.lookahead-t-in-loop-statements.ensures [] _ [] []) c.statement-t.ensures.stays_ready,
+      λ I. c.loop-statements.invariant.2 I ∙ statements-again _ _ _ _ I _ _ _ I _ _ _ (sym c.statement_ahead.ensures ∙ c.loop-statements-test.true) (c.statement-t.ensures.reads I) (c.lookahead-t-in-loop-statements.ensures I _ _ _),
     )
 
 pub returns : goal.returns
 returns c =
-    record { by_index = λ I. statements_done _ _ I _ _ _ (sym c.statement_ahead.ensures ∙ c.loop-statements-test.false) ∙ sym (c.loop-statements.invariant.2 I) ∙ sym (statements_look _ _ _ I _ _ _ (c.lookahead-t.ensures I _ _ _)); ready_2 = c.loop-statements.invariant.1 }
+    record { reads = λ I. statements_done _ _ I _ _ _ (sym c.statement_ahead.ensures ∙ c.loop-statements-test.false) ∙ sym (c.loop-statements.invariant.2 I) ∙ sym (statements_look _ _ _ I _ _ _ (c.lookahead-t.ensures I _ _ _)); stays_ready = c.loop-statements.invariant.1 }

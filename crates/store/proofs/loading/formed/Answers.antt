@@ -12,12 +12,12 @@ use Rattle.store.proofs.loading.formed.Goals as goal
 
 pub slice_bounds-packed_well_formed-end : goal.slice_bounds-packed_well_formed-end
 slice_bounds-packed_well_formed-end c =
-    let inside : c.args.l.text ≤ length c.args.file.now = omega (arith, c.requires.l_in_bounds) in
+    let inside : c.args.l.text ≤ length c.args.file.now = omega (arith, c.requires.within) in
     sym (length-take-le c.args.l.text c.args.file.now inside)
 
 pub packed_well_formed-requires : goal.packed_well_formed-requires
 packed_well_formed-requires c =
-    whole_parts c.args.file.now c.args.l c.requires.l_in_bounds c.requires.l_value
+    whole_parts c.args.file.now c.args.l c.requires.within c.requires.whole
 
 pub returns : goal.returns
 returns c =

@@ -17,7 +17,7 @@ pub returns-then-not-roomy : goal.returns-then-not-roomy
 returns-then-not-roomy c = load_refused _ _ _ _ _ 15 (small _ _ (sym c.shape-fault.ensures ∙ c.if-fault-ne0.false) (said_not (told _ _ c.roomy.ensures c.lengths-l.ensures) c.if-not-roomy.true-raw))
 
 pub formed-requires : goal.formed-requires
-formed-requires c = record { l_in_bounds = parts_inside _ c.lengths-l.ensures (sym c.shape-fault.ensures ∙ c.if-fault-ne0.false); l_value = parts_whole _ c.lengths-l.ensures (sym c.shape-fault.ensures ∙ c.if-fault-ne0.false) }
+formed-requires c = record { within = parts_inside _ c.lengths-l.ensures (sym c.shape-fault.ensures ∙ c.if-fault-ne0.false); whole = parts_whole _ c.lengths-l.ensures (sym c.shape-fault.ensures ∙ c.if-fault-ne0.false) }
 
 pub returns-then-not-formed : goal.returns-then-not-formed
 returns-then-not-formed c = load_refused _ _ _ _ _ 8
@@ -26,7 +26,7 @@ returns-then-not-formed c = load_refused _ _ _ _ _ 8
     ∙ malformed _ _ (said_not c.formed.ensures c.if-not-formed.true-raw))
 
 pub take_parts-requires : goal.take_parts-requires
-take_parts-requires c = record { l_in_bounds = parts_inside _ c.lengths-l.ensures (sym c.shape-fault.ensures ∙ c.if-fault-ne0.false); attributes_value = said_not_not c.roomy.ensures c.if-not-roomy.false-raw }
+take_parts-requires c = record { within = parts_inside _ c.lengths-l.ensures (sym c.shape-fault.ensures ∙ c.if-fault-ne0.false); roomy = said_not_not c.roomy.ensures c.if-not-roomy.false-raw }
 
 pub returns : goal.returns
 returns c =
@@ -38,4 +38,4 @@ returns c =
     (roomed _ _ (sym c.shape-fault.ensures ∙ c.if-fault-ne0.false) (said_not_not (told _ _ c.roomy.ensures c.lengths-l.ensures) c.if-not-roomy.false-raw)
     ∙ ap (content file) (sym c.lengths-l.ensures)
     ∙ accepted file l (said_not_not c.formed.ensures c.if-not-formed.false-raw))
-    (answer_is file l inside) (over_text file l _ inside t.text_after) t.after t.statements_after t.operands_after t.attributes_after
+    (answer_is file l inside) (over_text file l _ inside t.text_after) t.items_after t.statements_after t.operands_after t.attributes_after
