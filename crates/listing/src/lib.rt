@@ -77,7 +77,8 @@ pub fn advance(
         if entry % 2 == 1 {
             return Step::Row(row, Walk { depth });
         }
-        if !marks::is_marked(work, row) {
+        let unmarked = !marks::is_marked(work, row);
+        if unmarked {
             depth = trace(statements, operands, work, rows, depth, row);
         }
     }

@@ -1,5 +1,6 @@
 -- `listing::advance` meets its contract.
 -- Assumes nothing.
+use Rattle.std.proofs.Common.{rules}
 use mathlib.Core.Path.{refl}
 use native.Mathlib.Omega.{arith}
 use Rattle.laws.proofs.Tests.{said_not, said_not_not}
@@ -32,8 +33,8 @@ returns-then-entry-eq1 c =
     let turn : Turn c.args.statements.now c.args.operands.now c.args.rows c.args.work.now c.args.walk.depth c.loop-depth.work c.loop-depth.depth = record { sound = c.requires.sound; going = c.loop-depth.invariant; more = c.loop-depth-test.true } in
     turn_listed turn c.if-entry-eq1.true
 
-pub is_marked-requires : goal.is_marked-requires
-is_marked-requires c =
+pub is_marked-unmarked-requires : goal.is_marked-unmarked-requires
+is_marked-unmarked-requires c =
     let turn : Turn c.args.statements.now c.args.operands.now c.args.rows c.args.work.now c.args.walk.depth c.loop-depth.work c.loop-depth.depth = record { sound = c.requires.sound; going = c.loop-depth.invariant; more = c.loop-depth-test.true } in
     omega (arith, turn_counted turn, turn_room turn)
 
@@ -41,27 +42,27 @@ pub trace-depth-requires : goal.trace-depth-requires
 trace-depth-requires c =
     let turn : Turn c.args.statements.now c.args.operands.now c.args.rows c.args.work.now c.args.walk.depth c.loop-depth.work c.loop-depth.depth = record { sound = c.requires.sound; going = c.loop-depth.invariant; more = c.loop-depth-test.true } in
     let u = turn in
-    record { sound = u.sound; ready = turn_ready u; row_lt_rows = turn_counted u; depth_value = turn_trace u c.if-entry-eq1.false; row_value = said_not c.is_marked.ensures c.if-not-is_marked.true-raw }
+    record { sound = u.sound; ready = turn_ready u; row_lt_rows = turn_counted u; depth_value = turn_trace u c.if-entry-eq1.false; row_value = search (rules, said_not) }
 
-pub loop-depth-smaller-then-not-is_marked : goal.loop-depth-smaller-then-not-is_marked
-loop-depth-smaller-then-not-is_marked c =
+pub loop-depth-smaller-then-unmarked : goal.loop-depth-smaller-then-unmarked
+loop-depth-smaller-then-unmarked c =
     let turn : Turn c.args.statements.now c.args.operands.now c.args.rows c.args.work.now c.args.walk.depth c.loop-depth.work c.loop-depth.depth = record { sound = c.requires.sound; going = c.loop-depth.invariant; more = c.loop-depth-test.true } in
     turn_less turn _ _ c.trace-depth.ensures
 
-pub loop-depth-preserved-then-not-is_marked : goal.loop-depth-preserved-then-not-is_marked
-loop-depth-preserved-then-not-is_marked c =
+pub loop-depth-preserved-then-unmarked : goal.loop-depth-preserved-then-unmarked
+loop-depth-preserved-then-unmarked c =
     let turn : Turn c.args.statements.now c.args.operands.now c.args.rows c.args.work.now c.args.walk.depth c.loop-depth.work c.loop-depth.depth = record { sound = c.requires.sound; going = c.loop-depth.invariant; more = c.loop-depth-test.true } in
     turn_going turn _ _ c.trace-depth.ensures c.trace-depth.auto.work
 
 pub loop-depth-smaller : goal.loop-depth-smaller
 loop-depth-smaller c =
     let turn : Turn c.args.statements.now c.args.operands.now c.args.rows c.args.work.now c.args.walk.depth c.loop-depth.work c.loop-depth.depth = record { sound = c.requires.sound; going = c.loop-depth.invariant; more = c.loop-depth-test.true } in
-    turn_less turn _ _ (turn_passed turn c.if-entry-eq1.false (said_not_not c.is_marked.ensures c.if-not-is_marked.false-raw))
+    turn_less turn _ _ (turn_passed turn c.if-entry-eq1.false (search (rules, said_not_not)))
 
 pub loop-depth-preserved : goal.loop-depth-preserved
 loop-depth-preserved c =
     let turn : Turn c.args.statements.now c.args.operands.now c.args.rows c.args.work.now c.args.walk.depth c.loop-depth.work c.loop-depth.depth = record { sound = c.requires.sound; going = c.loop-depth.invariant; more = c.loop-depth-test.true } in
-    turn_going turn _ _ (turn_passed turn c.if-entry-eq1.false (said_not_not c.is_marked.ensures c.if-not-is_marked.false-raw)) refl
+    turn_going turn _ _ (turn_passed turn c.if-entry-eq1.false (search (rules, said_not_not))) refl
 
 pub returns : goal.returns
 returns c = going_ended _ _ _ _ _ _ _ c.loop-depth.invariant c.loop-depth-test.false

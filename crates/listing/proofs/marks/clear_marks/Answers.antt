@@ -1,7 +1,6 @@
 -- `listing::marks::clear_marks` meets its contract.
 -- Assumes nothing.
 use mathlib.Core.Path.{refl}
-use Prim.Native.Nat.{◌-◌}
 use native.Mathlib.Nat.{not-suc-le-zero}
 use native.Mathlib.Omega.{arith}
 use Rattle.listing.proofs.Words.{clearing_more, clearing_done}
