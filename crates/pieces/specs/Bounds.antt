@@ -1,6 +1,6 @@
 -- How many rows a span may have, so that the length of all that is printed fits 64 bits.
 -- Assumes nothing.
-use Rattle.std.specs.Prelude.{ℕ, ◌≤◌}
+use Rattle.std.specs.Prelude.{◌≤◌}
 use Rattle.rules.specs.declared.Span.{Span}
 
 -- rows among the first 65,536

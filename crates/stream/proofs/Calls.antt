@@ -9,7 +9,7 @@ use borrow.Author.Tests.{le-ltb}
 use lib.ListN.{length}
 use Rattle.rules.specs.Streamed.{found, streamed, whole, Short, joined, lex_report_of}
 use Rattle.stream.specs.declared.Stream.{Stream}
-use Rattle.stream.specs.Steps.{begun, fed, fed_all, ended}
+use Rattle.stream.specs.Steps.{fed_all, ended}
 use Rattle.stream.specs.Words.{encoded, decoded, kept, tells, Leads, Starts, Parts, end_report}
 use Rattle.stream.proofs.Streams.{parts_streamed, short-whole}
 

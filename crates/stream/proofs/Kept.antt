@@ -1,13 +1,12 @@
 -- Words are the state that was kept in them.
 -- Assumes nothing.
 use Prim.Native.Nat.{ℕ, ◌+◌, ◌≤◌, ◌<◌}
-use mathlib.Core.Path.{◌≡◌, refl, sym, ap, ◌∙◌}
+use mathlib.Core.Path.{◌≡◌, refl, ◌∙◌}
 use mathlib.Core.List.{List, ◌++◌}
 use native.Mathlib.Nat.{zero-add}
 use native.Mathlib.Numerals.{add-one}
 use lib.ListN.{length, get_or, drop, drop_of_length-le, set}
 use lib.Seq.{sets, sets-eq, drop-cons}
-use Rattle.stream.specs.declared.Ahead.{Ahead}
 use Rattle.stream.specs.declared.Sequence.TheVariants.{Inside, Bad}
 use Rattle.stream.specs.declared.Mode.TheVariants.{Wide, Percent, Run, Known, Equals, Stopped}
 use Rattle.stream.specs.declared.Stream.{Stream}

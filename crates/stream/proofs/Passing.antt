@@ -3,7 +3,7 @@
 use mathlib.Core.Path.{◌≡◌, refl, sym, ap, subst, ◌∙◌}
 use mathlib.Core.Bool.{Bool, true, false, cond, false≢true}
 use mathlib.Core.List.{List, [], ◌∷◌}
-use Prim.Native.Nat.{ℕ, zero, suc, ◌+◌, ◌-◌, ◌≤◌, ◌<◌}
+use Prim.Native.Nat.{ℕ, suc, ◌+◌, ◌-◌, ◌≤◌, ◌<◌}
 use native.Mathlib.Nat.{add-zero}
 use native.Mathlib.Numerals.{add-one, one-add}
 use native.Mathlib.Omega.{arith}
@@ -11,7 +11,7 @@ use borrow.Author.Tests.{leb-true, leb-false, ltb-false, le-leb, le-ltb, lt-ltb,
 use lib.Dec.{eqb, leb, ltb, eqb-suc-zero}
 use lib.ListN.{length, get_or, take, drop, length-drop, drop_of_length-le}
 use lib.Seq.{drop-cons, drop-drop}
-use Rattle.rules.specs.Bytes.{byte, inside, digit, letter, name_byte, count}
+use Rattle.rules.specs.Bytes.{byte, digit, letter, name_byte, count}
 use Rattle.rules.specs.Tokens.{ident, val_name, int, single, int_start}
 use Rattle.lexer.specs.Blank.{blank}
 use Rattle.laws.proofs.Cases.{by_cases}

@@ -1,7 +1,6 @@
 -- The state as fourteen words, and back: any words are a state. A number that is too great for its place loses its high bits, and a tag that none has is the last one's.
 -- Assumes nothing.
 use Rattle.std.specs.Prelude.{ℕ, ◌%◌, ◌≤◌, ◌≡◌, cond, List, [], ◌∷◌, ◌++◌, eqb, ltb, length, get_or, drop}
-use Rattle.rules.specs.declared.LexReport.{LexReport}
 use Rattle.rules.specs.Streamed.{lex_report_of}
 use Rattle.stream.specs.declared.Ahead.{Ahead}
 use Rattle.stream.specs.declared.Sequence.{Sequence}

@@ -1,11 +1,10 @@
 -- What a function answers is what a rule says: along the rule, one call, look or test at a time.
 -- Assumes nothing.
 use Prim.Native.Nat.{ℕ}
-use mathlib.Core.Path.{◌≡◌, refl, sym, ap, ◌∙◌}
+use mathlib.Core.Path.{◌≡◌, sym, ◌∙◌}
 use mathlib.Core.Bool.{Bool, true, false, cond}
 use mathlib.Core.List.{List}
-use Rattle.rules.specs.declared.Spot.{Spot}
-use Rattle.rules.specs.World.{World, Res, go, stop, P, bind, ◌>>=◌, asks, give, refuse}
+use Rattle.rules.specs.World.{World, Res, P, ◌>>=◌, asks, give}
 use Rattle.tables.specs.declared.State.{State}
 use Rattle.tables.specs.Stands.{world, out, stands, run}
 use Rattle.tables.proofs.Steps as step

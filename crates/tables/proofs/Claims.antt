@@ -1,7 +1,7 @@
 -- How a claim ends, one law for the four tables: where there is room the world has a row more, where there is none the claim is refused.
 -- Assumes nothing.
 use Prim.Native.Nat.{ℕ, ◌/◌, ◌<◌, min}
-use mathlib.Core.Path.{◌≡◌, refl, sym, ◌∙◌}
+use mathlib.Core.Path.{◌≡◌, sym, ◌∙◌}
 use mathlib.Core.Bool.{Bool, true, false, cond}
 use mathlib.Core.List.{List}
 use native.Mathlib.Omega.{arith}

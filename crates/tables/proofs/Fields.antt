@@ -1,7 +1,7 @@
 -- Rows read back from words: no place wraps; the row claimed last, the rows before it, and the rows among the words that are counted. One law each over the row's length, then one for each kind of row.
 -- Assumes nothing.
 use Prim.Native.Nat.{ℕ, ◌+◌, ◌*◌, ◌≤◌, ◌<◌, ◌^◌}
-use mathlib.Core.Path.{◌≡◌, refl}
+use mathlib.Core.Path.{◌≡◌}
 use mathlib.Core.Bool.{true}
 use mathlib.Core.List.{List, ◌++◌}
 use native.Mathlib.Nat.{add-mul, one-mul, mul-le-mul_left, mul-le-mul_right}

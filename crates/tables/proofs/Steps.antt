@@ -8,7 +8,6 @@ use native.Mathlib.Omega.{arith}
 use borrow.Author.Tests.{eq-eqb, ne_eqb, eqb-true}
 use lib.Dec.{eqb}
 use Rattle.rules.specs.declared.Spot.{Spot}
-use Rattle.rules.specs.Reading.{nothing}
 use Rattle.rules.specs.World.{World, Res, go, stop, P, bind, ◌>>=◌, asks, give, refuse}
 use Rattle.tables.specs.declared.State.{State}
 use Rattle.tables.specs.Stands.{world, out, stands, run}

@@ -6,14 +6,14 @@ use mathlib.Core.Bool.{Bool, true, false, ◌&&◌}
 use mathlib.Core.List.{List, []}
 use native.Mathlib.Nat.{mul-div_cancel, mul_assoc}
 use native.Mathlib.Omega.{arith}
-use lib.Dec.{eqb, leb, ltb}
+use lib.Dec.{leb, ltb}
 use lib.ListN.{length, get_or, drop, drop_of_length-le}
 use borrow.Author.Tests.{leb-true, ltb-true, ltb-false}
-use Rattle.rules.specs.Rows.{item_length, statement_length, operand_length, attribute_length, capacity}
-use Rattle.rules.specs.WellFormed.{Counts, only, is_zero, word_fits, count_fits, rest_unused, table_ok, tables_ok}
+use Rattle.rules.specs.Rows.{item_length, statement_length, operand_length, attribute_length}
+use Rattle.rules.specs.WellFormed.{Counts, only, is_zero, count_fits, rest_unused, table_ok, tables_ok}
 use Rattle.laws.proofs.Cases.{by_cases, leb_iff}
 use Rattle.laws.proofs.Tests.{and_left, and_right}
-use Rattle.rules.specs.Stored.{four_bytes, in_words}
+use Rattle.rules.specs.Stored.{in_words}
 use Rattle.packed.specs.Packed.{table}
 use Rattle.packed.proofs.Words.{words-length, word_there, no_word, only-words}
 use Rattle.wellformed.specs.Parts.{rows_ok, few, rows_in, Whole, counted}

@@ -12,7 +12,7 @@ use Rattle.rules.specs.WellFormed.{consecutive}
 use Rattle.wellformed.specs.declared.owned.Reached.{Reached}
 use Rattle.wellformed.specs.declared.owned.Reached.TheVariants.{At, Broken}
 use Rattle.wellformed.specs.Reached.{goes_on, Reaches}
-use Rattle.wellformed.proofs.Along.{each_more, each-end, each_start}
+use Rattle.wellformed.proofs.Along.{each_more}
 
 module _ {at : ℕ} {s : List Span} {r : Reached} (h : Reaches at s r) where
   -- the spans, or the answer, told otherwise

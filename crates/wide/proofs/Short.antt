@@ -1,7 +1,7 @@
 -- Integers of one or two digits: their decimals, and how they are written.
 -- Assumes nothing.
 use mathlib.Core.Path.{◌≡◌, refl, sym, ap, ◌∙◌}
-use mathlib.Core.Bool.{true, false}
+use mathlib.Core.Bool.{true}
 use mathlib.Core.List.{List, [], ◌∷◌, ◌++◌}
 use Prim.Native.Nat.{ℕ, ◌+◌, ◌*◌, ◌/◌, ◌%◌, ◌^◌, ◌≤◌, ◌<◌}
 use native.Mathlib.Nat.{lt_of_lt_of_le}
@@ -10,7 +10,7 @@ use lib.Dec.{ltb}
 use lib.ListN.{length, set, drop}
 use borrow.Author.Tests.{lt-leb, ltb-true, leb-true}
 use Rattle.rules.specs.Bytes.{byte}
-use Rattle.rules.specs.Integers.{digits, decimal, negative}
+use Rattle.rules.specs.Integers.{digits, decimal}
 use Rattle.rules.specs.Out.{Wrote}
 use Rattle.wide.proofs.Digits.{digits_one, digits_more}
 use Rattle.wide.proofs.Decimals.{wrote_none, wrote_all, decimal_plain}

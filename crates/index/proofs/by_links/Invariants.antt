@@ -1,7 +1,7 @@
 -- `by_links` meets its contract. While it looks at candidates, what is to be found is what a search from here finds, and the next candidate has the name's slot;
 -- while it compares letters, from the last to the first, those from here on are the same.
 -- Assumes nothing.
-use Prim.Native.Nat.{ℕ, ◌≤◌, ◌<◌, ◌-◌}
+use Prim.Native.Nat.{ℕ, ◌≤◌, ◌<◌}
 use mathlib.Core.Bool.{true}
 use mathlib.Core.Path.{◌≡◌}
 use lib.ListN.{length, drop}

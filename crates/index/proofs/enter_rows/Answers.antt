@@ -1,6 +1,5 @@
 -- `enter_rows` meets its contract. While rows enter, those before are linked, and the index keeps its length.
 -- Assumes nothing.
-use Prim.Native.Nat.{◌-◌}
 use mathlib.Core.Path.{◌≡◌, refl, ◌∙◌}
 use native.Mathlib.Omega.{arith}
 use lib.ListN.{set}

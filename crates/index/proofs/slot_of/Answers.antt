@@ -1,7 +1,6 @@
 -- `slot_of` meets its contract. The loop's invariant: the letters that are left give the name's number.
 -- Assumes nothing.
 use mathlib.Core.Path.{sym, ◌∙◌}
-use Prim.Native.Nat.{◌-◌}
 use native.Mathlib.Nat.{mod-lt}
 use native.Mathlib.Omega.{arith}
 use borrow.Author.Rules.{rules}

@@ -3,7 +3,7 @@
 use Rattle.laws.proofs.Over.{over_byte}
 use lib.Seq.{take-length}
 use lib.ListN.{length, take, drop, get_or, set, length-set}
-use Prim.Native.Nat.{ℕ, ◌-◌}
+use Prim.Native.Nat.{ℕ}
 use mathlib.Core.List.{List, ◌++◌}
 use mathlib.Core.Path.{◌≡◌, refl, sym, ap, ◌∙◌}
 use native.Mathlib.Numerals.{add-one}

@@ -1,6 +1,6 @@
 -- `tables::claim_row` meets its contract. The loop's invariant: to store the words that are left makes what to store the whole row makes.
 -- Assumes nothing.
-use Prim.Native.Nat.{◌+◌, ◌-◌, ◌*◌}
+use Prim.Native.Nat.{◌+◌, ◌*◌}
 use mathlib.Core.Path.{refl, sym, ap, ◌∙◌}
 use mathlib.Core.Bool.{false≢true}
 use native.Mathlib.Nat.{add-zero}

@@ -1,6 +1,6 @@
 -- `tables::clear` meets its contract. The loop's invariant: the words passed are 0, and the others are as they were.
 -- Assumes nothing.
-use Prim.Native.Nat.{ℕ, ◌-◌}
+use Prim.Native.Nat.{ℕ}
 use mathlib.Core.Path.{refl, ap, ◌∙◌}
 use mathlib.Core.List.{List}
 use native.Mathlib.Omega.{arith}

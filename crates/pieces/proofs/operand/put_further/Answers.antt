@@ -1,7 +1,6 @@
 -- `pieces::operand::put_further` meets its contract.
 -- Assumes nothing.
 use native.Mathlib.Nat.{le_refl}
-use Prim.Native.Nat.{◌-◌}
 use Rattle.pieces.proofs.Chains.{least_within, chain_as, chain_more, chain_fits, chain_done}
 use Rattle.pieces.proofs.Wholes.{each_next, each-stop, further-start}
 use native.Mathlib.Omega.{arith}

@@ -1,7 +1,6 @@
 -- `pieces::operand::put_operands` meets its contract.
 -- Assumes nothing.
 use native.Mathlib.Nat.{le_refl}
-use Prim.Native.Nat.{◌-◌}
 use mathlib.Core.Path.{ap}
 use mathlib.Core.List.{List, []}
 use Rattle.rules.specs.Syntax.{Operand}

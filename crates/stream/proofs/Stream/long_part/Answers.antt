@@ -1,6 +1,5 @@
 -- `long_part` meets its contract. The loop's invariant: what is left, fed to the state as it is now, comes to the whole part fed to the state at the start.
 -- Assumes nothing.
-use Prim.Native.Nat.{◌-◌}
 use mathlib.Core.Path.{refl, sym, ◌∙◌}
 use native.Mathlib.Omega.{arith}
 use lib.ListN.{length-drop}

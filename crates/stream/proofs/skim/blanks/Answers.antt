@@ -1,6 +1,5 @@
 -- `blanks` meets its contract.
 -- Assumes nothing.
-use Prim.Native.Nat.{◌-◌}
 use native.Mathlib.Omega.{arith}
 use Rattle.lexer.specs.Blank.{blank}
 use Rattle.laws.proofs.Runs.{count_more, count-stop, count-end}

@@ -1,6 +1,5 @@
 -- `skim` meets its contract. The loop's invariant: what is left, from between tokens, comes to what all of it comes to.
 -- Assumes nothing.
-use Prim.Native.Nat.{◌-◌}
 use native.Mathlib.Omega.{arith}
 use lib.ListN.{length-drop}
 use Rattle.laws.proofs.Runs.{rest}

@@ -1,6 +1,5 @@
 -- `put` meets its contract. The loop's invariant: to store the words that are left makes what to store the whole row makes.
 -- Assumes nothing.
-use Prim.Native.Nat.{◌-◌}
 use mathlib.Core.Path.{refl, sym, ◌∙◌}
 use native.Mathlib.Omega.{arith}
 use lib.ListN.{length-set}

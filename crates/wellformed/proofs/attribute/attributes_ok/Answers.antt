@@ -1,10 +1,8 @@
 -- `attributes_ok` meets its contract. The loop's invariant: the rows passed have passed the test, so the others decide.
 -- Assumes nothing.
 use mathlib.Core.Path.{ap, ◌∙◌}
-use Prim.Native.Nat.{◌-◌}
 use borrow.Author.Rules.{rules}
 use Rattle.rules.specs.WellFormed.{attribute_ok, attributes_ok}
-use Rattle.rules.specs.Rows.{attribute_at}
 use Rattle.laws.proofs.Tests.{said_not, said_not_not}
 use Rattle.wellformed.proofs.Along.{passing_begin, passing_more, passing_stop, passing_end}
 use Rattle.wellformed.proofs.attribute.attributes_ok.Goals as goal

@@ -1,10 +1,8 @@
 -- `kinds_ok` meets its contract. The loop's invariant: the rows passed have passed the test, so the others decide.
 -- Assumes nothing.
 use mathlib.Core.Path.{ap, ◌∙◌}
-use Prim.Native.Nat.{◌-◌}
 use borrow.Author.Rules.{rules}
 use Rattle.rules.specs.WellFormed.{kind_ok, kinds_ok}
-use Rattle.rules.specs.Rows.{item_at}
 use Rattle.laws.proofs.Tests.{said_not, said_not_not}
 use Rattle.wellformed.proofs.Along.{passing_begin, passing_more, passing_all_stop, passing_all_end}
 use Rattle.wellformed.proofs.item.kinds_ok.Goals as goal

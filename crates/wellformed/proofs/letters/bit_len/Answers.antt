@@ -1,6 +1,5 @@
 -- `bit_len` meets its contract. The loop's invariant: all that were passed count.
 -- Assumes nothing.
-use Prim.Native.Nat.{◌-◌}
 use native.Mathlib.Omega.{arith}
 use borrow.Author.Rules.{rules}
 use Rattle.rules.specs.Bytes.{bit}

@@ -1,7 +1,6 @@
 -- `operands_owned` meets its contract. The loop's invariant: the spans passed are consecutive up to where it stands, so the others decide.
 -- Assumes nothing.
 use mathlib.Core.Path.{ap}
-use Prim.Native.Nat.{◌-◌}
 use borrow.Author.Rules.{rules}
 use Rattle.packed.specs.Packed.{table}
 use Rattle.rules.specs.WellFormed.{operand_spans, operands_owned}

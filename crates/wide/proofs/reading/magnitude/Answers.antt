@@ -1,6 +1,6 @@
 -- The loop has read the digits up to `i` as `m`, so what is left reads behind `m` as the whole does behind 0.
 use mathlib.Core.Path.{refl, sym, ap, ◌∙◌}
-use Prim.Native.Nat.{◌-◌, ◌^◌}
+use Prim.Native.Nat.{◌^◌}
 use native.Mathlib.Omega.{arith}
 use borrow.Author.Rules.{rules}
 use borrow.Author.Tests.{leb-true}
