@@ -8,7 +8,6 @@ use lib.ListN.{length, length-drop}
 use lib.Seq.{length-take-le}
 use borrow.Rule.Slice.PartMut.{mid_of, put_mid, same_len_mid}
 use Rattle.input.specs.Counts.{IsPrefixLen}
-use Rattle.io.proofs.Counting.{prefix_len_of_le}
 
 -- what is left of a text behind so many bytes
 rest-length : (at : ℕ) (x : List ℕ) → length (mid_of at (length x - at) x) ≡ length x - at
@@ -24,4 +23,4 @@ filled x last at n h e k = record { long = same_len_mid at (length x - at) x las
 
 -- the bytes before the rest are counted as before
 pub counted : (x last : List ℕ) (at n : ℕ) → at ≤ length x → Filled x last at n → IsPrefixLen at (put_mid at (length x - at) x last)
-counted x last at n h f = prefix_len_of_le at _ (omega (arith, f.long))
+counted x last at n h f = let k : at ≤ length (put_mid at (length x - at) x last) = omega (arith, f.long) in (k, sym (length-take-le at _ k))

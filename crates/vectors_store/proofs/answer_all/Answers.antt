@@ -1,0 +1,11 @@
+-- A line that is counted in the rest of the text ends within it.
+use Rattle.std.proofs.Common.{arith}
+use Rattle.rules.specs.Bytes.{line_byte}
+use Rattle.laws.proofs.Runs.{rest-fits}
+use Rattle.vectors_store.proofs.answer_all.Goals as goal
+
+pub overflow_add-past : goal.overflow_add-past
+overflow_add-past g c = omega (arith, rest-fits line_byte c.args.lines.now c.loop-i.i c.line_len.ensures)
+
+pub slice_bounds-answer-end : goal.slice_bounds-answer-end
+slice_bounds-answer-end g c = omega (arith, rest-fits line_byte c.args.lines.now c.loop-i.i c.line_len.ensures)
