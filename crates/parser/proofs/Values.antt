@@ -1,7 +1,7 @@
 -- A number that was read, or a fault at its token.
 -- Assumes nothing.
 use Prim.Native.Nat.{ℕ}
-use mathlib.Core.Path.{◌≡◌, ◌∙◌}
+use mathlib.Core.Path.{◌≡◌}
 use Rattle.rules.specs.declared.Spot.{Spot}
 use Rattle.rules.specs.Integers.{Read, number, refused}
 use Rattle.rules.specs.World.{Res, give, refuse}

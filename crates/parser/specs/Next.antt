@@ -5,7 +5,7 @@ use Rattle.rules.specs.declared.Lexed.{Lexed}
 use Rattle.rules.specs.declared.Lexed.TheVariants.{Found, End, Refused}
 use Rattle.rules.specs.declared.Spot.{Spot}
 use Rattle.rules.specs.Faults as fault
-use Rattle.rules.specs.Reading.{spot_of, last_byte}
+use Rattle.rules.specs.Reading.{last_byte}
 use Rattle.rules.specs.World.{go, stop, P, standing}
 use Rattle.parser.specs.declared.Next.{Next}
 

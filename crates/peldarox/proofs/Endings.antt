@@ -1,20 +1,18 @@
 -- From the reader's state at its end to an answer and every word of the tables.
 -- Assumes nothing.
-use Prim.Native.Nat.{ℕ, ◌*◌, ◌≤◌, ◌<◌}
-use mathlib.Core.Path.{◌≡◌, refl, sym, ap, ◌∙◌}
-use mathlib.Core.Bool.{Bool, true, false, cond}
+use Prim.Native.Nat.{ℕ, ◌≤◌, ◌<◌}
+use mathlib.Core.Path.{◌≡◌, refl, ap, ◌∙◌}
 use mathlib.Core.List.{List, []}
 use borrow.Author.Tests.{eq-eqb, ne_eqb, lt-ltb, le-ltb}
-use lib.ListN.{length, take}
-use Rattle.rules.specs.declared.Checked.{Checked}
+use lib.ListN.{length}
 use Rattle.rules.specs.declared.Checked.TheVariants.{WellFormed, IllFormed}
 use Rattle.rules.specs.declared.Entry.{Entry}
 use Rattle.rules.specs.declared.Answer.{Answer}
 use Rattle.rules.specs.declared.Answer.TheVariants as answer
 use Rattle.rules.specs.Utf8.{checked}
-use Rattle.rules.specs.World.{World, Res, go, stop}
+use Rattle.rules.specs.World.{World}
 use Rattle.rules.specs.Reading as R
-use Rattle.rules.specs.Answers.{Outcome, accepted, refusal, outcome, answer_of, rows_of, padded, start, lent, reading, read_checked, fault_number, Leaves, Ends}
+use Rattle.rules.specs.Answers.{Outcome, refusal, outcome, answer_of, rows_of, start, lent, reading, read_checked, fault_number, Ends}
 use Rattle.tables.specs.declared.State.{State}
 use Rattle.tables.specs.Stands.{world, out, stands, run, Cleared}
 use Rattle.tables.proofs.Steps as step

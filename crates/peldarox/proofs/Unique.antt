@@ -7,7 +7,7 @@ use denote.Ref.{Bor}
 use Rattle.rules.specs.declared.Entry.{Entry}
 use Rattle.rules.specs.declared.Answer.{Answer}
 use Rattle.rules.specs.declared.Span.{Span}
-use Rattle.rules.specs.Answers.{Outcome, Leaves, Ends, Reads, Reports}
+use Rattle.rules.specs.Answers.{Outcome, Leaves, Reads, Reports}
 use Rattle.rules.specs.Prints.{Prints, PrintReports, name_part, name_report}
 use Rattle.rules.specs.WellFormed.{Counts}
 use Rattle.prints.specs.Parts.{IsPart}

@@ -1,8 +1,8 @@
 -- The roots and the closing lines of an item, by its kind.
 -- Assumes nothing.
-use mathlib.Core.Path.{◌≡◌, refl, ap, ◌∙◌}
+use mathlib.Core.Path.{◌≡◌, refl, ap}
 use mathlib.Core.Bool.{Bool, true, false, cond}
-use mathlib.Core.List.{List, [], ◌∷◌, ◌++◌}
+use mathlib.Core.List.{List, [], ◌∷◌}
 use Prim.Native.Nat.{ℕ, ◌+◌, ◌^◌, ◌≤◌}
 use native.Mathlib.Omega.{arith}
 use borrow.Author.Tests.{ne_eqb}
@@ -12,7 +12,7 @@ use Rattle.rules.specs.declared.Item.{Item}
 use Rattle.rules.specs.Rows.{name_at, infer_result, candidate, left_hand_side}
 use Rattle.rules.specs.Syntax as syntax
 use Rattle.rules.specs.View.{along, operand_of, root_attribute_of, as_closing}
-use Rattle.rules.specs.Printing.{infer_line, result_line, cand_line, first_closing, second_closing}
+use Rattle.rules.specs.Printing.{first_closing, second_closing}
 use Rattle.listing.specs.References.{named}
 use Rattle.pieces.specs.Bounds.{Few}
 use Rattle.pieces.proofs.Bounds.{either}

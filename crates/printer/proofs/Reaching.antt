@@ -1,8 +1,7 @@
 -- What roots list: the rows of a span, where the roots and all that they reach are among them, and no more rows than that.
 -- Assumes nothing.
-use mathlib.Core.Path.{◌≡◌, refl, sym, ap, ◌∙◌, subst}
-use mathlib.Core.Bool.{Bool, true, false}
-use mathlib.Core.List.{List, [], ◌∷◌, ◌++◌}
+use mathlib.Core.Path.{◌≡◌, subst}
+use mathlib.Core.List.{List, ◌++◌}
 use Prim.Native.Nat.{ℕ, ◌+◌, ◌-◌, ◌≤◌, ◌<◌}
 use native.Mathlib.Omega.{arith}
 use lib.ListN.{length}
@@ -11,7 +10,7 @@ use Rattle.rules.specs.Rows.{◌up_to◌}
 use Rattle.rules.specs.Meaning.{Mem, All}
 use Rattle.rules.specs.Syntax.{flat}
 use Rattle.laws.proofs.Members.{all_at, all_of, all_map, flat_mem}
-use Rattle.listing.specs.Listing.{Marks, mark, marked, unfolded, firsts, listing}
+use Rattle.listing.specs.Listing.{Marks, marked, unfolded}
 use Rattle.listing.specs.References.{references, refers, Sound}
 use Rattle.listing.proofs.Marking.{firsts-only}
 use Rattle.listing.proofs.Orders.{Reach, here, there, unfolded_reach}
@@ -19,7 +18,7 @@ use Rattle.listing.proofs.Listings.{listing-append}
 use Rattle.listing.proofs.Steps.{refers-counted, refers-earlier}
 use Rattle.printer.specs.Rows.{reached}
 use Rattle.printer.specs.Contract.{Within}
-use Rattle.printer.proofs.Counting.{free, free_most, firsts-few}
+use Rattle.printer.proofs.Counting.{free_most, firsts-few}
 
 module _ (S O : List ℕ) (s : ℕ) (so : Sound S O s) where
   -- roots one after the other

@@ -3,17 +3,16 @@
 use mathlib.Core.Path.{◌≡◌, refl, sym, ap, ◌∙◌, subst}
 use mathlib.Core.Bool.{Bool, true, false, cond}
 use mathlib.Core.List.{List, [], ◌∷◌, ◌++◌, append-nil}
-use Prim.Native.Nat.{ℕ, suc, ◌+◌, ◌≤◌, ◌<◌, ◌^◌}
+use Prim.Native.Nat.{ℕ, suc, ◌+◌, ◌<◌}
 use native.Mathlib.Numerals.{add-one}
 use native.Mathlib.Omega.{arith}
 use borrow.Author.Tests.{ne_eqb}
 use lib.Dec.{eqb}
-use lib.ListN.{length}
 use Rattle.rules.specs.declared.Operand.{Operand}
-use Rattle.rules.specs.Out.{joined, Wrote}
+use Rattle.rules.specs.Out.{Wrote}
 use Rattle.rules.specs.Rows.{operand_at, value_code}
 use Rattle.rules.specs.Meaning.{All}
-use Rattle.laws.proofs.Over.{nothing, written}
+use Rattle.laws.proofs.Over.{nothing}
 use Rattle.laws.proofs.Members.{all_left, all_right}
 use Rattle.listing.specs.Listing.{Marks, marked}
 use Rattle.listing.specs.References.{named}

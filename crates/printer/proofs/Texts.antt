@@ -2,16 +2,14 @@
 -- Assumes nothing.
 use mathlib.Core.Path.{◌≡◌, refl, sym, ap, ◌∙◌}
 use mathlib.Core.List.{List, [], ◌∷◌, ◌++◌, map, append-nil, append_assoc}
-use Prim.Native.Nat.{ℕ, zero, suc, ◌+◌, ◌-◌, ◌*◌, ◌^◌, ◌≤◌, ◌<◌}
+use Prim.Native.Nat.{ℕ, ◌*◌, ◌^◌, ◌≤◌, ◌<◌}
 use native.Mathlib.Omega.{arith}
 use lib.ListN.{length, length-append}
 use Rattle.rules.specs.Out.{joined}
-use Rattle.rules.specs.Rows.{statement_at}
 use Rattle.rules.specs.Syntax as syntax
 use Rattle.rules.specs.View.{statement_of}
 use Rattle.rules.specs.Printing.{line, lines, first_closing, second_closing, laid}
 use Rattle.rules.specs.Meaning.{All}
-use Rattle.pieces.specs.Bounds.{Few}
 use Rattle.proof_tails.proofs.Tails.{line-tail, lines-tail, first-closing-tail}
 use Rattle.lines.proofs.Lines.{line-short}
 use Rattle.printer.specs.Rows.{lines_of}

@@ -1,8 +1,8 @@
 -- A walk along a listing that writes a line for each row.
 -- Assumes nothing.
-use mathlib.Core.Path.{◌≡◌, refl, sym, ap, ◌∙◌, subst}
+use mathlib.Core.Path.{◌≡◌, refl, sym, ap, ◌∙◌}
 use mathlib.Core.List.{List, [], ◌∷◌, map}
-use Prim.Native.Nat.{ℕ, ◌+◌, ◌-◌, ◌≤◌, ◌<◌, ◌^◌, min}
+use Prim.Native.Nat.{ℕ, ◌+◌, ◌-◌, ◌<◌, ◌^◌, min}
 use native.Mathlib.Omega.{arith}
 use lib.ListN.{length}
 use borrow.Rule.Slice.PartMut.{mid_of, put_mid}
@@ -10,8 +10,7 @@ use Rattle.rules.specs.Out.{Wrote}
 use Rattle.rules.specs.View.{statement_of}
 use Rattle.rules.specs.Printing.{line}
 use Rattle.laws.proofs.Over.{written}
-use Rattle.listing.specs.Listing.{Marks, marked}
-use Rattle.listing.specs.Machine.{Run, emit, lists}
+use Rattle.listing.specs.Machine.{Run, lists}
 use Rattle.listing.specs.Work.{marks_of, to_come, Ready, Begun, Listed, Ended}
 use Rattle.pieces.proofs.Chains.{Chain, chain_none, chain_as, chain_more, chain_done}
 use Rattle.printer.specs.Rows.{reached, lines_of}

@@ -1,18 +1,14 @@
 -- The row of a block that was named is one of those counted.
 -- Assumes nothing.
-use Prim.Native.Nat.{ℕ, ◌+◌, ◌*◌, ◌-◌, ◌≤◌, ◌<◌}
-use mathlib.Core.Path.{◌≡◌, refl, sym, ap, ◌∙◌}
-use mathlib.Core.Bool.{Bool, true, false, cond}
+use Prim.Native.Nat.{ℕ, ◌<◌}
+use mathlib.Core.Path.{◌≡◌, refl, sym, ◌∙◌}
 use mathlib.Core.List.{List}
 use native.Mathlib.Omega.{arith}
-use borrow.Author.Tests.{eq-eqb, ne_eqb}
-use native.Mathlib.Decide.{ℕ_discrete}
 use lib.Dec.{eqb}
-use lib.ListN.{take}
 use Rattle.rules.specs.declared.Row.{Row}
 use Rattle.rules.specs.declared.Row.TheVariants.{At, Missing}
 use Rattle.rules.specs.declared.Spot.{Spot}
-use Rattle.rules.specs.Rows.{statement_length, statement_at, keyword_code}
+use Rattle.rules.specs.Rows.{statement_at, keyword_code}
 use Rattle.rules.specs.Tokens as kind
 use Rattle.rules.specs.Keywords as keyword
 use Rattle.rules.specs.Faults as fault

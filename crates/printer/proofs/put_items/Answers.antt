@@ -1,6 +1,5 @@
 -- `printer::put_items` meets its contract.
 -- Assumes nothing.
-use Prim.Native.Nat.{◌-◌}
 use native.Mathlib.Nat.{le_refl}
 use Rattle.pieces.proofs.Chains.{least_within, chain_fits}
 use Rattle.printer.proofs.Items.{going_start, going_item, going_own, item_wrote, going_more, going_done}

@@ -1,6 +1,6 @@
 -- `peldarox_lex_part` meets its contract.
 -- Assumes nothing.
-use Rattle.std.proofs.Common.{◌≡◌, ap, ◌∙◌, arith}
+use Rattle.std.proofs.Common.{ap, ◌∙◌, arith}
 use Rattle.stream.specs.declared.Stream.{Stream}
 use Rattle.stream.specs.Steps.{fed}
 use Rattle.peldarox_c.proofs.Arriving.{few_leads, leads}

@@ -37,7 +37,8 @@ returns c =
     let k = ready-kept (ident_steady _) _ _ _ [] S [] [] [] [] [] index _ (c.ident-t.ensures [] S [] []) c.requires.ready in
     let l = ready-kept operand_steady _ _ _ [] S O [] [] _ [] index _ (c.operand-x.ensures [] []) k in
     let m = ready-kept operand_steady _ _ _ [] S _ [] [] P [] index _ (c.operand-y.ensures [] []) l in
-    let n = ready-kept root_attributes_steady _ _ _ [] S [] A [] [] B index _ (c.root_attributes-e.ensures [] S []) m in record { reads = chain.then _ _ _ _ _ _ _ _ _ _ _ (c.ident-t.ensures I S O A)
+    let n = ready-kept root_attributes_steady _ _ _ [] S [] A [] [] B index _ (c.root_attributes-e.ensures [] S []) m in record {
+      reads = chain.then _ _ _ _ _ _ _ _ _ _ _ (c.ident-t.ensures I S O A)
           (chain.seen _ _ I S O A _ _ _
           (chain.then _ _ _ _ _ _ _ _ _ _ _ (c.operand-x.ensures I A)
           (chain.then _ _ _ _ _ _ _ _ _ _ _ (c.operand-y.ensures I A)
@@ -45,4 +46,6 @@ returns c =
           (chain.seen _ _ I S P A _ _ _
           (chain.then _ _ _ _ _ _ _ _ _ _ _ (c.root_attributes-e.ensures I S P)
           (chain.seen _ _ I S P B _ _ _
-          (c.close_item.ensures _ S P B)))))))); stays_ready = ready-closed _ _ _ _ S [] [] _ index _ _ _ _ _ (c.close_item.ensures _ S [] []) n }
+          (c.close_item.ensures _ S P B))))))));
+      stays_ready = ready-closed _ _ _ _ S [] [] _ index _ _ _ _ _ (c.close_item.ensures _ S [] []) n;
+    }

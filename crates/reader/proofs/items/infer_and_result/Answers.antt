@@ -29,8 +29,11 @@ returns c =
     let O = c.args.operands.now in
     let A = c.args.attributes.now in
     let B = c.infer-v.new.attributes in
-    let E = c.statements_of-u.new.attributes in record { reads = chain.seen _ _ I S O A _ _ _
+    let E = c.statements_of-u.new.attributes in record {
+      reads = chain.seen _ _ I S O A _ _ _
           (chain.then _ _ _ _ _ _ _ _ _ _ _ (c.infer-v.ensures I O)
           (chain.seen _ _ I S O B _ _ _
           (chain.then _ _ _ _ _ _ _ _ _ _ _ (c.statements_of-u.ensures.reads I)
-          (c.result.ensures.reads E)))); stays_ready = c.result.ensures.stays_ready }
+          (c.result.ensures.reads E))));
+      stays_ready = c.result.ensures.stays_ready;
+    }

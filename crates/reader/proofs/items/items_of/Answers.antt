@@ -30,12 +30,11 @@ loop-entry-smaller c =
     item_of_falls _ _ _ _ _ _ _ _ _ _ _ _ _ (eqb-true _ _ (and_left _ _ h)) c.item-t.ensures.reads (c.lookahead-t-in-loop-entry.ensures _ _ _ _)
 
 pub loop-entry-preserved : goal.loop-entry-preserved
-loop-entry-preserved c =
-    (
-      (omega (arith, c.item-t.auto), omega (arith, c.item-t.auto), omega (arith, c.item-t.auto), omega (arith, c.item-t.auto), omega (arith, c.item-t.auto)),
-      ready-kept lookahead_steady _ _ _ [] _ [] [] [] [] [] _ _ (c.lookahead-t-in-loop-entry.ensures [] _ [] []) c.item-t.ensures.stays_ready,
-      c.loop-entry.invariant.2 ∙ items-again _ _ _ _ _ _ _ _ _ _ _ _ _ (sym c.item_ahead.ensures ∙ c.loop-entry-test.true) c.item-t.ensures.reads (c.lookahead-t-in-loop-entry.ensures _ _ _ _),
-    )
+loop-entry-preserved c = (
+  (omega (arith, c.item-t.auto), omega (arith, c.item-t.auto), omega (arith, c.item-t.auto), omega (arith, c.item-t.auto), omega (arith, c.item-t.auto)),
+  ready-kept lookahead_steady _ _ _ [] _ [] [] [] [] [] _ _ (c.lookahead-t-in-loop-entry.ensures [] _ [] []) c.item-t.ensures.stays_ready,
+  c.loop-entry.invariant.2 ∙ items-again _ _ _ _ _ _ _ _ _ _ _ _ _ (sym c.item_ahead.ensures ∙ c.loop-entry-test.true) c.item-t.ensures.reads (c.lookahead-t-in-loop-entry.ensures _ _ _ _),
+)
 
 pub returns : goal.returns
 returns c =

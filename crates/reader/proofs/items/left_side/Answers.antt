@@ -22,10 +22,13 @@ returns c =
     let O = c.statements_of-t.new.operands in
     let A = c.statements_of-t.new.attributes in
     let B = c.infer-v.new.attributes in
-    let k = ready-kept infer_steady _ _ _ [] S [] A [] [] B _ _ (c.infer-v.ensures [] []) c.statements_of-t.ensures.stays_ready in record { reads = chain.then _ _ _ _ _ _ _ _ _ _ _ (c.statements_of-t.ensures.reads I)
+    let k = ready-kept infer_steady _ _ _ [] S [] A [] [] B _ _ (c.infer-v.ensures [] []) c.statements_of-t.ensures.stays_ready in record {
+      reads = chain.then _ _ _ _ _ _ _ _ _ _ _ (c.statements_of-t.ensures.reads I)
           (chain.seen _ _ I S O A _ _ _
           (chain.seen _ _ I S O A _ _ _
           (chain.then _ _ _ _ _ _ _ _ _ _ _ (c.infer-v.ensures I O)
           (chain.seen _ _ I S O B _ _ _
           (chain.seen _ _ I S O B _ _ _
-          (c.close_item.ensures _ S O B)))))); stays_ready = ready-closed _ _ _ _ S [] [] _ _ _ _ _ _ _ (c.close_item.ensures _ S [] []) k }
+          (c.close_item.ensures _ S O B))))));
+      stays_ready = ready-closed _ _ _ _ S [] [] _ _ _ _ _ _ _ (c.close_item.ensures _ S [] []) k;
+    }

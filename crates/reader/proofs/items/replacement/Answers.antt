@@ -25,10 +25,13 @@ returns-then-keyword_at-eq-INFER c =
     let I = c.args.items.now in
     let S = c.statements_of-t.new.statements in
     let O = c.statements_of-t.new.operands in
-    let A = c.statements_of-t.new.attributes in record { reads = chain.then _ _ _ _ _ _ _ _ _ _ _ (c.statements_of-t.ensures.reads I)
+    let A = c.statements_of-t.new.attributes in record {
+      reads = chain.then _ _ _ _ _ _ _ _ _ _ _ (c.statements_of-t.ensures.reads I)
           (chain.seen _ _ I S O A _ _ _
           (chain.then _ _ I S O A _ _ _ _ _ (looked _ _ _ I S O A _ (c.lookahead-u.ensures I S O A) c.keyword_at.ensures)
-          (chain.yes_so _ _ _ _ (eq-eqb _ _ c.if-keyword_at-eq-INFER.true) c.infer_and_result.ensures.reads))); stays_ready = c.infer_and_result.ensures.stays_ready }
+          (chain.yes_so _ _ _ _ (eq-eqb _ _ c.if-keyword_at-eq-INFER.true) c.infer_and_result.ensures.reads)));
+      stays_ready = c.infer_and_result.ensures.stays_ready;
+    }
 
 pub cand-requires : goal.cand-requires
 cand-requires c = record { text_len_bound = c.requires.text_len_bound; ready = ready-kept lookahead_steady _ _ _ [] _ [] [] [] [] [] _ _ (c.lookahead-u.ensures [] _ [] []) c.statements_of-t.ensures.stays_ready }
@@ -39,7 +42,10 @@ returns c =
     let I = c.args.items.now in
     let S = c.statements_of-t.new.statements in
     let O = c.statements_of-t.new.operands in
-    let A = c.statements_of-t.new.attributes in record { reads = chain.then _ _ _ _ _ _ _ _ _ _ _ (c.statements_of-t.ensures.reads I)
+    let A = c.statements_of-t.new.attributes in record {
+      reads = chain.then _ _ _ _ _ _ _ _ _ _ _ (c.statements_of-t.ensures.reads I)
           (chain.seen _ _ I S O A _ _ _
           (chain.then _ _ I S O A _ _ _ _ _ (looked _ _ _ I S O A _ (c.lookahead-u.ensures I S O A) c.keyword_at.ensures)
-          (chain.not_so _ _ _ _ (ne_eqb _ _ c.if-keyword_at-eq-INFER.false) c.cand.ensures.reads))); stays_ready = c.cand.ensures.stays_ready }
+          (chain.not_so _ _ _ _ (ne_eqb _ _ c.if-keyword_at-eq-INFER.false) c.cand.ensures.reads)));
+      stays_ready = c.cand.ensures.stays_ready;
+    }

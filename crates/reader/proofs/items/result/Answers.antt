@@ -23,9 +23,12 @@ returns c =
     let index = c.args.index.now in
     let P = c.operand-u.new.operands in
     let k = ready-kept (ident_steady _) _ _ _ [] S [] [] [] [] [] index _ (c.ident-t.ensures [] S [] []) c.requires.ready in
-    let l = ready-kept operand_steady _ _ _ [] S O [] [] P [] index _ (c.operand-u.ensures [] []) k in record { reads = λ A.
+    let l = ready-kept operand_steady _ _ _ [] S O [] [] P [] index _ (c.operand-u.ensures [] []) k in record {
+      reads = λ A.
           chain.then _ _ _ _ _ _ _ _ _ _ _ (c.ident-t.ensures I S O A)
           (chain.seen _ _ I S O A _ _ _
           (chain.then _ _ _ _ _ _ _ _ _ _ _ (c.operand-u.ensures I A)
           (chain.seen _ _ I S P A _ _ _
-          (c.close_item.ensures _ S P A)))); stays_ready = ready-closed _ _ _ _ S [] [] _ index _ _ _ _ _ (c.close_item.ensures _ S [] []) l }
+          (c.close_item.ensures _ S P A))));
+      stays_ready = ready-closed _ _ _ _ S [] [] _ index _ _ _ _ _ (c.close_item.ensures _ S [] []) l;
+    }

@@ -17,7 +17,10 @@ returns c =
     let I = c.args.items.now in
     let S = c.statements_of-t.new.statements in
     let O = c.statements_of-t.new.operands in
-    let A = c.statements_of-t.new.attributes in record { reads = chain.then _ _ _ _ _ _ _ _ _ _ _ (c.statements_of-t.ensures.reads I)
+    let A = c.statements_of-t.new.attributes in record {
+      reads = chain.then _ _ _ _ _ _ _ _ _ _ _ (c.statements_of-t.ensures.reads I)
           (chain.seen _ _ I S O A _ _ _
           (chain.seen _ _ I S O A _ _ _
-          (c.result.ensures.reads A))); stays_ready = c.result.ensures.stays_ready }
+          (c.result.ensures.reads A)));
+      stays_ready = c.result.ensures.stays_ready;
+    }

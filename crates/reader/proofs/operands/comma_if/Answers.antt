@@ -1,7 +1,7 @@
 -- `reader::operands::comma_if` meets its contract.
 -- Assumes nothing.
 use mathlib.Core.Path.{◌≡◌}
-use mathlib.Core.Bool.{Bool, true, false}
+use mathlib.Core.Bool.{Bool}
 use Rattle.rules.specs.World.{Res}
 use Rattle.tables.specs.Stands.{run}
 use Rattle.tables.proofs.Chains as chain

@@ -1,6 +1,6 @@
 -- `reader::operands::operands_behind` meets its contract: the operands that are left are what is left of the rule.
 -- Assumes nothing.
-use Prim.Native.Nat.{ℕ, ◌-◌}
+use Prim.Native.Nat.{ℕ}
 use mathlib.Core.Path.{◌≡◌}
 use mathlib.Core.List.{List}
 use lib.ListN.{length}

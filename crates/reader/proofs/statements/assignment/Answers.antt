@@ -34,7 +34,8 @@ returns c =
     let k₂ = ready-kept type_if_any_steady _ _ _ [] S O A [] O A index _ (c.type_if_any-t.ensures [] S O A) k₁ in
     let k₃ = ready-kept (expect_steady _) _ _ _ [] S O A [] O A index _ (c.expect-e.ensures [] S O A) k₂ in
     let k₄ = ready-kept assignment_rhs_steady _ _ _ [] S O A [] P A index _ (c.assignment_rhs-r.ensures [] A) k₃ in
-    let k₅ = ready-kept attributes_steady _ _ _ [] S P A [] P B index _ (c.attributes_of-a.ensures [] S P) k₄ in record { reads = λ I.
+    let k₅ = ready-kept attributes_steady _ _ _ [] S P A [] P B index _ (c.attributes_of-a.ensures [] S P) k₄ in record {
+      reads = λ I.
           chain.then _ _ _ _ _ _ _ _ _ _ _ (c.new_name-n.ensures I O A)
           (chain.then _ _ _ _ _ _ _ _ _ _ _ (c.type_if_any-t.ensures I S O A)
           (chain.then _ _ _ _ _ _ _ _ _ _ _ (c.expect-e.ensures I S O A)
@@ -44,4 +45,6 @@ returns c =
           (chain.seen _ _ I S P A _ _ _
           (chain.then _ _ _ _ _ _ _ _ _ _ _ (c.attributes_of-a.ensures I S P)
           (chain.seen _ _ I S P B _ _ _
-          (c.claim_statement.ensures _ I P B))))))))); stays_ready = ready_claimed _ _ _ [] S P B _ index _ (c.claim_statement.ensures _ [] P B) k₅ }
+          (c.claim_statement.ensures _ I P B)))))))));
+      stays_ready = ready_claimed _ _ _ [] S P B _ index _ (c.claim_statement.ensures _ [] P B) k₅;
+    }

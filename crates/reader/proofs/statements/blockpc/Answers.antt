@@ -25,7 +25,10 @@ pub returns : goal.returns
 unfolding R.blockpc
 returns c =
     let S = c.args.statements.now in
-    let O = c.args.operands.now in record { reads = λ I A.
+    let O = c.args.operands.now in record {
+      reads = λ I A.
           chain.then _ _ _ _ _ _ _ _ _ _ _ (c.token.ensures I S O A)
           (chain.then _ _ _ _ _ _ _ _ _ _ _ (c.block-b.ensures I O A)
-          (chain.then _ _ _ _ _ _ _ _ _ _ _ (c.int_32-n.ensures I S O A) (c.condition.ensures.reads I A))); stays_ready = c.condition.ensures.stays_ready }
+          (chain.then _ _ _ _ _ _ _ _ _ _ _ (c.int_32-n.ensures I S O A) (c.condition.ensures.reads I A)));
+      stays_ready = c.condition.ensures.stays_ready;
+    }

@@ -20,10 +20,13 @@ returns c =
     let P = c.operand-y.new.operands in
     let index = c.args.index.now in
     let k = ready-kept operand_steady _ _ _ [] S O [] [] _ [] index _ (c.operand-x.ensures [] []) c.requires.ready in
-    let l = ready-kept operand_steady _ _ _ [] S _ [] [] P [] index _ (c.operand-y.ensures [] []) k in record { reads = λ I A.
+    let l = ready-kept operand_steady _ _ _ [] S _ [] [] P [] index _ (c.operand-y.ensures [] []) k in record {
+      reads = λ I A.
           chain.seen _ _ I S O A _ _ _
           (chain.then _ _ _ _ _ _ _ _ _ _ _ (c.operand-x.ensures I A)
           (chain.then _ _ _ _ _ _ _ _ _ _ _ (c.operand-y.ensures I A)
           (chain.seen _ _ I S P A _ _ _
           (chain.seen _ _ I S P A _ _ _
-          (c.claim_statement.ensures _ I P A))))); stays_ready = ready_claimed _ _ _ [] S P [] _ index _ (c.claim_statement.ensures _ [] P []) l }
+          (c.claim_statement.ensures _ I P A)))));
+      stays_ready = ready_claimed _ _ _ [] S P [] _ index _ (c.claim_statement.ensures _ [] P []) l;
+    }

@@ -22,10 +22,13 @@ unfolding R.statement world
 returns-then-spot-eq-VAL_NAME c =
     let S = c.args.statements.now in
     let O = c.args.operands.now in
-    let A = c.args.attributes.now in record { reads = λ I.
+    let A = c.args.attributes.now in record {
+      reads = λ I.
           chain.then _ _ _ _ _ _ _ _ _ _ _ (c.lookahead-t.ensures I S O A)
           (chain.seen _ _ I S O A _ _ _
-          (chain.yes_so _ _ _ _ (eq-eqb _ _ c.if-spot-eq-VAL_NAME.true) (c.assignment.ensures.reads I))); stays_ready = c.assignment.ensures.stays_ready }
+          (chain.yes_so _ _ _ _ (eq-eqb _ _ c.if-spot-eq-VAL_NAME.true) (c.assignment.ensures.reads I)));
+      stays_ready = c.assignment.ensures.stays_ready;
+    }
 
 pub pc-requires : goal.pc-requires
 pc-requires c =
@@ -39,11 +42,14 @@ unfolding R.statement world
 returns-then-keyword_at-eq-PC c =
     let S = c.args.statements.now in
     let O = c.args.operands.now in
-    let A = c.args.attributes.now in record { reads = λ I.
+    let A = c.args.attributes.now in record {
+      reads = λ I.
           chain.then _ _ _ _ _ _ _ _ _ _ _ (c.lookahead-t.ensures I S O A)
           (chain.seen _ _ I S O A _ _ _
           (chain.not_so _ _ _ _ (ne_eqb _ _ c.if-spot-eq-VAL_NAME.false)
-          (chain.yes_so _ _ _ _ (eq-eqb _ _ (sym c.keyword_at.ensures ∙ c.if-keyword_at-eq-PC.true)) (c.pc.ensures.reads I A)))); stays_ready = c.pc.ensures.stays_ready }
+          (chain.yes_so _ _ _ _ (eq-eqb _ _ (sym c.keyword_at.ensures ∙ c.if-keyword_at-eq-PC.true)) (c.pc.ensures.reads I A))));
+      stays_ready = c.pc.ensures.stays_ready;
+    }
 
 pub blockpc-requires : goal.blockpc-requires
 blockpc-requires c =
@@ -57,8 +63,11 @@ unfolding R.statement world
 returns c =
     let S = c.args.statements.now in
     let O = c.args.operands.now in
-    let A = c.args.attributes.now in record { reads = λ I.
+    let A = c.args.attributes.now in record {
+      reads = λ I.
           chain.then _ _ _ _ _ _ _ _ _ _ _ (c.lookahead-t.ensures I S O A)
           (chain.seen _ _ I S O A _ _ _
           (chain.not_so _ _ _ _ (ne_eqb _ _ c.if-spot-eq-VAL_NAME.false)
-          (chain.not_so _ _ _ _ (ne_eqb _ _ (λ e. c.if-keyword_at-eq-PC.false (c.keyword_at.ensures ∙ e))) (c.blockpc.ensures.reads I A)))); stays_ready = c.blockpc.ensures.stays_ready }
+          (chain.not_so _ _ _ _ (ne_eqb _ _ (λ e. c.if-keyword_at-eq-PC.false (c.keyword_at.ensures ∙ e))) (c.blockpc.ensures.reads I A))));
+      stays_ready = c.blockpc.ensures.stays_ready;
+    }

@@ -35,12 +35,11 @@ loop-statements-smaller c =
     statement_falls _ _ _ _ [] _ _ _ [] _ _ _ (eqb-true _ _ (and_left _ _ h)) (c.statement-t.ensures.reads []) (c.lookahead-t-in-loop-statements.ensures [] _ _ _)
 
 pub loop-statements-preserved : goal.loop-statements-preserved
-loop-statements-preserved c =
-    (
-      (omega (arith, c.statement-t.auto), omega (arith, c.statement-t.auto), omega (arith, c.statement-t.auto), omega (arith, c.statement-t.auto)),
-      ready-kept lookahead_steady _ _ _ [] _ [] [] [] [] [] _ _ (c.lookahead-t-in-loop-statements.ensures [] _ [] []) c.statement-t.ensures.stays_ready,
-      λ I. c.loop-statements.invariant.2 I ∙ statements-again _ _ _ _ I _ _ _ I _ _ _ (sym c.statement_ahead.ensures ∙ c.loop-statements-test.true) (c.statement-t.ensures.reads I) (c.lookahead-t-in-loop-statements.ensures I _ _ _),
-    )
+loop-statements-preserved c = (
+  (omega (arith, c.statement-t.auto), omega (arith, c.statement-t.auto), omega (arith, c.statement-t.auto), omega (arith, c.statement-t.auto)),
+  ready-kept lookahead_steady _ _ _ [] _ [] [] [] [] [] _ _ (c.lookahead-t-in-loop-statements.ensures [] _ [] []) c.statement-t.ensures.stays_ready,
+  λ I. c.loop-statements.invariant.2 I ∙ statements-again _ _ _ _ I _ _ _ I _ _ _ (sym c.statement_ahead.ensures ∙ c.loop-statements-test.true) (c.statement-t.ensures.reads I) (c.lookahead-t-in-loop-statements.ensures I _ _ _),
+)
 
 pub returns : goal.returns
 returns c =

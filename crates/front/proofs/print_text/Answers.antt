@@ -1,0 +1,28 @@
+-- `print_text` lends arrays of the lengths that `print_with` asks for.
+-- Assumes nothing.
+use Prim.Native.Nat.{ℕ}
+use mathlib.Core.Path.{◌≡◌, sym}
+use lib.ListN.{length, replicate, length-replicate}
+use Rattle.front.proofs.print_text.Goals as goal
+
+zeros : (n : ℕ) → length {A = ℕ} (replicate n 0) ≡ n
+zeros n = length-replicate {A = ℕ} n 0
+
+pub slice_bounds-print_with-end : goal.slice_bounds-print_with-end
+slice_bounds-print_with-end c = sym (zeros 294912)
+
+pub slice_bounds-print_with-end-2 : goal.slice_bounds-print_with-end-2
+slice_bounds-print_with-end-2 c = sym (zeros 218460)
+
+pub slice_bounds-print_with-end-3 : goal.slice_bounds-print_with-end-3
+slice_bounds-print_with-end-3 c = sym (zeros 458752)
+
+pub slice_bounds-print_with-end-4 : goal.slice_bounds-print_with-end-4
+slice_bounds-print_with-end-4 c = sym (zeros 240306)
+
+pub slice_bounds-print_with-end-5 : goal.slice_bounds-print_with-end-5
+slice_bounds-print_with-end-5 c = sym (zeros 131073)
+
+pub print_with-requires : goal.print_with-requires
+print_with-requires c =
+    record { len = zeros 294912; statements_len = zeros 218460; operands_len = zeros 458752; attributes_len = zeros 240306; work_len = zeros 131073 }
