@@ -47,6 +47,7 @@ fn sure(bytes: usize, all: usize) -> usize
 }
 
 // The bytes of the token that s begins with, where it is sure to end inside s; else 0. A word that begins with 'k' may be knownBits, so it is not sure.
+#[tactic(auto, using(crate::proofs::Passing::none))]
 fn token_len(s: &[u8]) -> usize
     requires { 1 ≤ length s.now }
     ensures { Passes s.now result }

@@ -26,20 +26,17 @@ returns-then-single-ge1 c = at_single c.args.s.now (search rules) c.if-b-gt127.f
 pub returns-then-b-eq37 : goal.returns-then-b-eq37
 returns-then-b-eq37 c = at_name c.args.s.now (search rules) c.if-b-gt127.false (said c.is_blank.ensures c.if-is_blank.false) (ne_eqb _ _ c.if-b-eq59.false) (ap (leb 1) (sym c.single.ensures) ∙ lt-leb _ _ c.if-single-ge1.false) (eq-eqb _ _ c.if-b-eq37.true) c.name_len.ensures
 
-pub returns-then-b-eq107 : goal.returns-then-b-eq107
-returns-then-b-eq107 c = none _
-
 pub overflow_add-name_len : goal.overflow_add-name_len
 overflow_add-name_len c = omega (arith, rest-fits name_byte c.args.s.now 1 c.name_len-then-is_letter.ensures)
 
 pub returns-then-is_letter : goal.returns-then-is_letter
-returns-then-is_letter c = at_word c.args.s.now (search rules) c.if-b-gt127.false (said c.is_blank.ensures c.if-is_blank.false) (ne_eqb _ _ c.if-b-eq59.false) (ap (leb 1) (sym c.single.ensures) ∙ lt-leb _ _ c.if-single-ge1.false) (ne_eqb _ _ c.if-b-eq37.false) (ne_eqb _ _ c.if-b-eq107.false) (said c.is_letter.ensures c.if-is_letter.true) c.sure.ensures (rest-count name_byte c.args.s.now 1 c.name_len-then-is_letter.ensures)
+returns-then-is_letter c = at_word c.args.s.now (search rules) c.if-b-gt127.false (said c.is_blank.ensures c.if-is_blank.false) (ne_eqb _ _ c.if-b-eq59.false) (ap (leb 1) (sym c.single.ensures) ∙ lt-leb _ _ c.if-single-ge1.false) (ne_eqb _ _ c.if-b-eq37.false) (search (rules, ne_eqb)) (said c.is_letter.ensures c.if-is_letter.true) c.sure.ensures (rest-count name_byte c.args.s.now 1 c.name_len-then-is_letter.ensures)
 
 pub overflow_add-digit_len : goal.overflow_add-digit_len
 overflow_add-digit_len c = omega (arith, rest-fits digit c.args.s.now 1 c.digit_len.ensures)
 
 pub returns-then-starts_int : goal.returns-then-starts_int
-returns-then-starts_int c = at_int c.args.s.now (search rules) c.if-b-gt127.false (said c.is_blank.ensures c.if-is_blank.false) (ne_eqb _ _ c.if-b-eq59.false) (ap (leb 1) (sym c.single.ensures) ∙ lt-leb _ _ c.if-single-ge1.false) (ne_eqb _ _ c.if-b-eq37.false) (ne_eqb _ _ c.if-b-eq107.false) (said c.is_letter.ensures c.if-is_letter.false) (said c.starts_int.ensures c.if-starts_int.true) c.sure-then-starts_int.ensures (rest-count digit c.args.s.now 1 c.digit_len.ensures)
+returns-then-starts_int c = at_int c.args.s.now (search rules) c.if-b-gt127.false (said c.is_blank.ensures c.if-is_blank.false) (ne_eqb _ _ c.if-b-eq59.false) (ap (leb 1) (sym c.single.ensures) ∙ lt-leb _ _ c.if-single-ge1.false) (ne_eqb _ _ c.if-b-eq37.false) (search (rules, ne_eqb)) (said c.is_letter.ensures c.if-is_letter.false) (said c.starts_int.ensures c.if-starts_int.true) c.sure-then-starts_int.ensures (rest-count digit c.args.s.now 1 c.digit_len.ensures)
 
 pub returns : goal.returns
 returns c = none _
