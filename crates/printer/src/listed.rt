@@ -118,7 +118,8 @@ pub fn put_before(
             text, statements, operands, attributes, work, rows, item.infer, out,
         );
     }
-    if item.kind == code::CANDIDATE {
+    let two_roots = item.kind == code::CANDIDATE;
+    if two_roots {
         return put_both_roots(
             text,
             statements,
