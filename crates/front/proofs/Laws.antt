@@ -1,22 +1,20 @@
 -- What the contracts of a read and of a print say together.
 -- Assumes nothing.
-use Prim.Native.Nat.{ℕ, ◌+◌, ◌*◌, ◌≤◌}
+use Prim.Native.Nat.{ℕ, ◌≤◌}
 use mathlib.Core.Path.{◌≡◌, refl, sym, ap, subst, ◌∙◌}
-use mathlib.Core.Bool.{true, cond, not}
+use mathlib.Core.Bool.{true}
 use mathlib.Core.List.{List}
 use native.Mathlib.Omega.{arith}
 use borrow.Author.Tests.{le-ltb}
-use lib.Dec.{ltb}
 use lib.ListN.{length}
 use Rattle.rules.specs.declared.Entry.{Entry}
 use Rattle.rules.specs.declared.Answer.{Answer}
 use Rattle.rules.specs.declared.Answer.TheVariants as answer
 use Rattle.rules.specs.World.{Tables}
 use Rattle.rules.specs.View.{items_of}
-use Rattle.rules.specs.Printing.{printed_all}
 use Rattle.rules.specs.WellFormed.{counts, well_formed}
-use Rattle.rules.specs.Answers.{Lent, lent, Outcome, accepted, refusal, reading, answer_of, Reads}
-use Rattle.rules.specs.Prints.{words_needed, print_of, fitting, printing, print_answer, output_after, Prints}
+use Rattle.rules.specs.Answers.{lent, Outcome, accepted, refusal, reading, answer_of, Reads}
+use Rattle.rules.specs.Prints.{words_needed, print_of, printing, print_answer, output_after, Prints}
 use Rattle.reading.proofs.Progress.{accepted_bounds}
 use Rattle.simulation.proofs.Left.{left_say}
 use Rattle.accepted.proofs.Formed.{left_formed}

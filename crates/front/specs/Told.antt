@@ -4,7 +4,6 @@ use Rattle.std.specs.Prelude.{ℕ, ◌≡◌, List, length}
 use Rattle.rules.specs.declared.Entry.{Entry}
 use Rattle.rules.specs.declared.Answer.{Answer}
 use Rattle.rules.specs.declared.Answer.TheVariants as answer
-use Rattle.rules.specs.Syntax.{Item}
 use Rattle.rules.specs.View.{items_of}
 use Rattle.rules.specs.Printing.{printed_all}
 use Rattle.rules.specs.World.{Tables}

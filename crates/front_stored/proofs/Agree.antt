@@ -17,8 +17,8 @@ use Rattle.rules.specs.World.{Tables}
 use Rattle.rules.specs.Rows.{item_length, statement_length, operand_length, attribute_length}
 use Rattle.rules.specs.WellFormed.{Counts, counts, well_formed}
 use Rattle.rules.specs.Answers.{Outcome, accepted, refusal, reading, padded}
-use Rattle.rules.specs.Prints.{Print, words_needed, print_of, printing, fitting, print_answer, output_after}
-use Rattle.rules.specs.Stored.{stored, Storing, refusing, writes, fitting_file, storing_answer, stored_output, rows_all, Loading, loads, loading}
+use Rattle.rules.specs.Prints.{Print, words_needed, print_of, printing, print_answer, output_after}
+use Rattle.rules.specs.Stored.{stored, fitting_file, storing_answer, stored_output, rows_all, Loading, loads, loading}
 use Rattle.laws.proofs.Cases.{by_cases}
 use Rattle.reading.proofs.Progress.{accepted_bounds}
 use Rattle.accepted.proofs.Formed.{accepted_formed}

@@ -10,7 +10,7 @@ use Rattle.rules.specs.declared.StoreAnswer.TheVariants as store
 use Rattle.rules.specs.World.{Tables}
 use Rattle.rules.specs.Answers.{Outcome, accepted, refusal, reading}
 use Rattle.rules.specs.Prints.{Print, printing, print_answer, output_after}
-use Rattle.rules.specs.Stored.{file_of, Storing, fitting_file, storing_answer, stored_output, Room, rows_all, Loading, refused, loads, loading}
+use Rattle.rules.specs.Stored.{file_of, fitting_file, storing_answer, stored_output, Room, rows_all, Loading, refused, loads, loading}
 use Rattle.front.specs.Told.{room}
 
 -- the file of a text and the rows that it reads as, into an output of so many bytes
