@@ -1,5 +1,5 @@
 -- Every line ends within the text, so that each turn goes on.
-use Rattle.std.proofs.Common.{◌≤◌, ◌+◌, ◌-◌, length}
+use Rattle.std.proofs.Common.{◌≤◌, ◌-◌, length}
 use Rattle.instruction_vectors.proofs.tell_lines.Given as goal
 
 abbrev pub invariant-loop-at : goal.invariant-loop-at
