@@ -1,5 +1,5 @@
--- What an accepted read leaves is well formed: `accepted-formed` of the tables of an outcome with zeros behind their rows, up to the lengths that were lent;
--- `left-formed` and `call-formed` of the tables that a caller has in hand when a read call has answered 0.
+-- What an accepted read leaves is well formed: `accepted_formed` of the tables of an outcome with zeros behind their rows, up to the lengths that were lent;
+-- `left_formed` and `call_formed` of the tables that a caller has in hand when a read call has answered 0.
 -- Assumes nothing.
 use Prim.Native.Nat.{ℕ, ◌-◌}
 use mathlib.Core.Path.{◌≡◌, refl}

@@ -72,7 +72,7 @@ fn print_with(
     output: &mut [u8],
 ) -> Answer
     requires text_len { length text.old ≡ 65536 }
-    requires len { length items.old ≡ 294912 }
+    requires items_len { length items.old ≡ 294912 }
     requires statements_len { length statements.old ≡ 218460 }
     requires operands_len { length operands.old ≡ 458752 }
     requires attributes_len { length attributes.old ≡ 240306 }

@@ -63,7 +63,7 @@ fn store_with(
     attributes: &mut [u32],
     output: &mut [u8],
 ) -> StoreAnswer
-    requires len { length items.old ≡ 294912 }
+    requires items_len { length items.old ≡ 294912 }
     requires statements_len { length statements.old ≡ 218460 }
     requires operands_len { length operands.old ≡ 458752 }
     requires attributes_len { length attributes.old ≡ 240306 }

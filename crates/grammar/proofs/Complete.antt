@@ -18,7 +18,7 @@ use Rattle.bynames.proofs.Reader.{Res, go, P, at}
 use Rattle.bynames.proofs.Moves.{Some}
 use Rattle.bynames.proofs.Steps.{step, before, looks, demands, expects}
 use Rattle.bynames.proofs.BackAttributes.{each-count}
-use Rattle.rules.specs.Grammar.{Token, ident, valname, known_bits, int, open_paren, close_paren, kind_of, Scope, Typing, no_type, a_type, Operand, a_value, a_constant, Further, no_further, one_further, Operands, no_operands, some_operands, AttributeInner, a_known_bits, power_of_two, is_negative, non_negative, non_zero, has_external_uses, sign_bits, in-range, RootAttributeInner, demanded_bits, harvested_from_use, Attributes, no_attributes, one_attribute}
+use Rattle.rules.specs.Grammar.{Token, ident, valname, known_bits, int, open_paren, close_paren, kind_of, Scope, Typing, no_type, a_type, Operand, a_value, a_constant, Further, no_further, one_further, Operands, no_operands, some_operands, AttributeInner, a_known_bits, power_of_two, is_negative, non_negative, non_zero, has_external_uses, sign_bits, in_range, RootAttributeInner, demanded_bits, harvested_from_use, Attributes, no_attributes, one_attribute}
 use Rattle.grammar.proofs.Leads.{First, Leads, here, over, leads_cons, leads_split, leads_long}
 
 -- ---- what may follow: no ':' behind an operand; neither ':' nor '(' behind a line
@@ -135,7 +135,7 @@ module _ (s : Scope) where
   attribute_complete f non_zero (over h p) g = closing s p (λ c. word_complete f h (closed_complete syntax.non_zero c)) g
   attribute_complete f has_external_uses (over h p) g = closing s p (λ c. word_complete f h (closed_complete syntax.has_external_uses c)) g
   attribute_complete f (sign_bits e) (over h (over i (over j p))) g = closing s p (λ c. word_complete f h (step _ (expects s (spelt i)) (step _ (field_complete s j 8 e) (closed_complete _ c)))) g
-  attribute_complete f (in-range d e) (over h (over i (over b (over v (over c (over w (over z p))))))) g =
+  attribute_complete f (in_range d e) (over h (over i (over b (over v (over c (over w (over z p))))))) g =
       closing s p (λ y. word_complete f h
       (step _ (expects s (spelt i))
       (step _ (expects s (spelt b))

@@ -18,7 +18,7 @@ use Rattle.rules.specs.Listing.{listed_before, listed_between}
 use Rattle.proof_tails.proofs.Tails.{line-tail}
 use Rattle.bynames.proofs.Listed.{Lists}
 use Rattle.bynames.proofs.Costs.{costs, listed_cost}
-use Rattle.rules.specs.Grammar.{Token, equals, close_paren, Scope, Typing, no_type, a_type, Operand, a_value, a_constant, Further, no_further, one_further, Operands, no_operands, some_operands, AttributeInner, a_known_bits, power_of_two, is_negative, non_negative, non_zero, has_external_uses, sign_bits, in-range, RootAttributeInner, demanded_bits, harvested_from_use, Attributes, no_attributes, one_attribute, RightSide, a_var, a_block, a_phi, a_reservedinst, a_reservedconst, an_instruction, Statement, an_assignment, a_pc, a_blockpc, Statements, no_statements, one_statement, Infer, an_infer, Result, a_result, Cand, a_cand, Item, a_pair, a_candidate, a_left_hand_side, a_right_hand_side, Items, no_items, one_item}
+use Rattle.rules.specs.Grammar.{Token, equals, close_paren, Scope, Typing, no_type, a_type, Operand, a_value, a_constant, Further, no_further, one_further, Operands, no_operands, some_operands, AttributeInner, a_known_bits, power_of_two, is_negative, non_negative, non_zero, has_external_uses, sign_bits, in_range, RootAttributeInner, demanded_bits, harvested_from_use, Attributes, no_attributes, one_attribute, RightSide, a_var, a_block, a_phi, a_reservedinst, a_reservedconst, an_instruction, Statement, an_assignment, a_pc, a_blockpc, Statements, no_statements, one_statement, Infer, an_infer, Result, a_result, Cand, a_cand, Item, a_pair, a_candidate, a_left_hand_side, a_right_hand_side, Items, no_items, one_item}
 use Rattle.grammar.proofs.Shortest.{integer-short, field-short, width_short}
 use Rattle.grammar.proofs.Weights.{at_least_lem, weights, weights_append}
 
@@ -53,7 +53,7 @@ attribute-long non_negative r = omega (arith, (at_least_lem 1 11).1)
 attribute-long non_zero r = omega (arith, (at_least_lem 1 7).1)
 attribute-long has_external_uses r = omega (arith, (at_least_lem 1 15).1)
 attribute-long (sign_bits {w} {n} e) r = omega (arith, (at_least_lem 1 8).1, length-append (decimal n) r, field-short 8 w n e, (at_least_lem 1 (length w)).1)
-attribute-long (in-range {v} {w} {a} {b} d e) r =
+attribute-long (in_range {v} {w} {a} {b} d e) r =
     omega (
       arith,
       (at_least_lem 1 5).1,

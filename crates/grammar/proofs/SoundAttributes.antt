@@ -17,7 +17,7 @@ use Rattle.bynames.proofs.Reader as R
 use Rattle.bynames.proofs.Reader.{State, P}
 use Rattle.bynames.proofs.AcceptedTokens.{count-each}
 use Rattle.bynames.proofs.AcceptedParts.{Ok, seq, either}
-use Rattle.rules.specs.Grammar.{Token, ident, known_bits, int, comma, equals, open_paren, close_paren, open_bracket, word, Scope, AttributeInner, a_known_bits, power_of_two, is_negative, non_negative, non_zero, has_external_uses, sign_bits, in-range, RootAttributeInner, demanded_bits, harvested_from_use, Attributes, no_attributes, one_attribute}
+use Rattle.rules.specs.Grammar.{Token, ident, known_bits, int, comma, equals, open_paren, close_paren, open_bracket, word, Scope, AttributeInner, a_known_bits, power_of_two, is_negative, non_negative, non_zero, has_external_uses, sign_bits, in_range, RootAttributeInner, demanded_bits, harvested_from_use, Attributes, no_attributes, one_attribute}
 use Rattle.grammar.proofs.Leads.{Leads, here, leads_on}
 use Rattle.grammar.proofs.Sound.{Stays, Took, took, is_ident, is_int, is_comma, is_equals, is_open, is_close, is_bracket, seq_look, demand_sound, expect-sound, Number, int-sound, field-sound}
 
@@ -83,7 +83,7 @@ module _ (s : Scope) (n : Next) where
       (λ b w₄ g₄.
       seq (Took s w₄.next T.close_paren) (Enclosed AttributeInner s n) (R.expect T.close_paren w₄) _ (expect-sound T.close_paren s w₄ g₄.took.scope)
       (λ x w₅ g₅.
-      closed-sound AttributeInner s n (syntax.range a b) (word "range" ∷ equals ∷ open_bracket ∷ int g₂.letters ∷ comma ∷ int g₄.letters ∷ close_paren ∷ []) (in-range g₂.reads g₄.reads) w₅ g₅.scope
+      closed-sound AttributeInner s n (syntax.range a b) (word "range" ∷ equals ∷ open_bracket ∷ int g₂.letters ∷ comma ∷ int g₄.letters ∷ close_paren ∷ []) (in_range g₂.reads g₄.reads) w₅ g₅.scope
       (λ u m p.
       f (open_bracket ∷ int g₂.letters ∷ comma ∷ int g₄.letters ∷ close_paren ∷ u) m
       (took open_bracket is_bracket g₁ (took (int g₂.letters) is_int g₂.took (took comma is_comma g₃ (took (int g₄.letters) is_int g₄.took (took close_paren is_close g₅ p)))))))))))

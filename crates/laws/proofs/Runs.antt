@@ -89,8 +89,8 @@ module _ (a b : List ℕ) (i : ℕ) where
   unfolding same
   same_end h k = rw (drop_of_length-le a h, drop_of_length-le b k)
 
-pub in-more : (a : List Range) (i : ℕ) (d : Range) (c : ℕ) → i < length a → in_any (drop i a) c ≡ (inside (get_or a i d).lo (get_or a i d).hi c || in_any (drop (i + 1) a) c)
-in-more a i d c h = rw (add-one, drop-cons a i d)
+pub in_more : (a : List Range) (i : ℕ) (d : Range) (c : ℕ) → i < length a → in_any (drop i a) c ≡ (inside (get_or a i d).lo (get_or a i d).hi c || in_any (drop (i + 1) a) c)
+in_more a i d c h = rw (add-one, drop-cons a i d)
 
 and_no : (t : Bool) {b : Bool} → b ≡ false → (t && b) ≡ false
 and_no true e = e

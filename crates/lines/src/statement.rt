@@ -111,7 +111,7 @@ fn put_assignment(
     row: Statement,
     out: &mut [u8],
 ) -> usize
-    requires code_value { is_condition row.code ≡ false }
+    requires no_condition { is_condition row.code ≡ false }
     requires text_len_bound { length text.now ≤ 65536 }
     requires few { Few row.operands }
     requires few_attributes { Few row.attributes }

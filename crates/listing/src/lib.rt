@@ -46,8 +46,8 @@ fn trace(
     requires sound { Sound statements.now operands.now rows }
     requires ready { Ready statements.now operands.now rows work.old (suc depth) }
     requires row_lt_rows { row < rows }
-    requires depth_value { entry_of (get_or work.old (rows + depth) 0) ≡ tracing row }
-    requires row_value { has_mark work.old row ≡ false }
+    requires traced { entry_of (get_or work.old (rows + depth) 0) ≡ tracing row }
+    requires unmarked { has_mark work.old row ≡ false }
     ensures { Traced statements.now operands.now rows work.old (suc depth) work.new result }
 {
     let base = rows as usize;

@@ -23,7 +23,8 @@ const ROW: usize = 1;
 fn has_block(kind: u32) -> bool
     ensures { result ≡ has_block kind }
 {
-    kind == code::PHI || kind == code::BLOCKPC
+    let is_phi = kind == code::PHI;
+    is_phi || kind == code::BLOCKPC
 }
 
 // How many words the stack has once the rows that operand rows from `first` up to `past` name are pushed, the first of them at the top.
@@ -35,9 +36,9 @@ fn push_operands(
     first: u32,
     past: u32,
 ) -> usize
-    requires operand_length_in_bounds { past * operand_length ≤ length operands.now }
-    requires first_in_bounds { base + depth + (past - first) ≤ length work.old }
-    requires all { All (λ j. j < 65536) (named operands.now first (past - first)) }
+    requires operands_inside { past * operand_length ≤ length operands.now }
+    requires room { base + depth + (past - first) ≤ length work.old }
+    requires small_rows { All (λ j. j < 65536) (named operands.now first (past - first)) }
     ensures { Pushed (named operands.now first (past - first)) work.old base depth (past - first) work.new result }
 {
     let mut t = depth;
@@ -62,10 +63,10 @@ pub fn push_references(
     depth: usize,
     row: u32,
 ) -> usize
-    requires statement_length_in_bounds { (row + 1) * statement_length ≤ length statements.now }
-    requires operand_length_in_bounds { (statement_at statements.now row).operands.past * operand_length ≤ length operands.now }
-    requires row_in_bounds { base + depth + (size statements.now row + 1) ≤ length work.old }
-    requires all { All (λ j. j < 65536) (references statements.now operands.now row) }
+    requires row_inside { (row + 1) * statement_length ≤ length statements.now }
+    requires operands_inside { (statement_at statements.now row).operands.past * operand_length ≤ length operands.now }
+    requires room { base + depth + (size statements.now row + 1) ≤ length work.old }
+    requires small_rows { All (λ j. j < 65536) (references statements.now operands.now row) }
     ensures { Pushed (references statements.now operands.now row) work.old base depth (size statements.now row + 1) work.new result }
 {
     let at = row as usize * STATEMENT_LENGTH;

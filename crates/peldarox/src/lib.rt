@@ -85,7 +85,8 @@ fn read(
 ) -> Answer
     ensures { Reads entry text.now items.old statements.old operands.old attributes.old result items.new statements.new operands.new attributes.new }
 {
-    if 65536 < text.len() {
+    let too_long = 65536 < text.len();
+    if too_long {
         return refused(items, statements, operands, attributes, 1, 65536);
     }
     match utf8::check(text) {
@@ -136,7 +137,8 @@ fn finish(
 ) -> Answer
     ensures { (text : List ℕ) → Ends (outcome (stands text s items.old statements.old operands.old attributes.old)) items.old statements.old operands.old attributes.old result items.new statements.new operands.new attributes.new }
 {
-    if s.fault != fault::NONE {
+    let refuses = s.fault != fault::NONE;
+    if refuses {
         return refused(
             items,
             statements,

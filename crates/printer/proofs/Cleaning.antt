@@ -76,13 +76,13 @@ marks_none w s f = fun_ext (λ i. at i (dec_lt i s))
 pub cleared : (span : Span) (w y : List ℕ) → span.first ≤ span.past → span.past ≤ length w → length y ≡ span.past - span.first → marks_of y (span.past - span.first) ≡ none
     → Cleared span w (put_mid span.first (span.past - span.first) w y)
 unfolding has_mark
-cleared span w y h fits long e = record { inside = in-part; outside = λ i n. out-part i n (dec_lt i span.first) (dec_lt i span.past) }
+cleared span w y h fits long e = record { inside = in_part; outside = λ i n. out-part i n (dec_lt i span.first) (dec_lt i span.past) }
   where
     within : span.first + (span.past - span.first) ≤ length w
     within = omega arith
 
-    in-part : (i : ℕ) → Within span i → not (eqb (get_or (put_mid span.first (span.past - span.first) w y) i 0) 0) ≡ false
-    in-part i q =
+    in_part : (i : ℕ) → Within span i → not (eqb (get_or (put_mid span.first (span.past - span.first) w y) i 0) 0) ≡ false
+    in_part i q =
         ap (λ (x : ℕ). not (eqb x 0)) (word_in w y span.first (span.past - span.first) within long i q.0 (omega (arith, q.1)))
         ∙ sym (marks_at y (span.past - span.first) (i - span.first) (omega (arith, q.1, q.0)))
         ∙ ap (λ (m : Marks). m (i - span.first)) e

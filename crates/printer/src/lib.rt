@@ -42,7 +42,7 @@ fn put_item(
     out: &mut [u8],
 ) -> usize
     requires prepared { Prepared text.now statements.now operands.now rows work.old }
-    requires rows_value { marks_of work.old rows ≡ none }
+    requires unmarked { marks_of work.old rows ≡ none }
     requires own { Own statements.now operands.now rows item }
     ensures { ItemPrinted text.now statements.now operands.now attributes.now rows item out.old work.new out.new result }
 {
@@ -81,7 +81,7 @@ pub fn put_items(
     out: &mut [u8],
 ) -> usize
     requires prepared { Prepared text.now statements.now operands.now rows work.old }
-    requires rows_value { marks_of work.old rows ≡ none }
+    requires unmarked { marks_of work.old rows ≡ none }
     requires owned { Owned items.now statements.now operands.now count rows }
     ensures { ItemsPrinted text.now items.now statements.now operands.now attributes.now count rows out.old work.new out.new result }
 {
@@ -118,7 +118,7 @@ pub fn measure(
     out: &mut [u8],
 ) -> usize
     requires prepared { Prepared text.now statements.now operands.now rows work.old }
-    requires rows_value { marks_of work.old rows ≡ none }
+    requires unmarked { marks_of work.old rows ≡ none }
     requires owned { Owned items.now statements.now operands.now count rows }
     ensures { Measured text.now items.now statements.now operands.now attributes.now count rows out.old work.new out.new result }
 {

@@ -55,7 +55,7 @@ fn put_root(
     out: &mut [u8],
 ) -> usize
     requires prepared { Prepared text.now statements.now operands.now rows work.old }
-    requires all { All (λ j. j < rows) (named operands.now i 1) }
+    requires roots_inside { All (λ j. j < rows) (named operands.now i 1) }
     ensures { RowsPrinted text.now statements.now operands.now attributes.now rows (named operands.now i 1) work.old out.old work.new out.new result }
 {
     let row = operand_at(operands, i);
@@ -80,7 +80,7 @@ fn put_both_roots(
 ) -> usize
     requires prepared { Prepared text.now statements.now operands.now rows work.old }
     requires i_bound { i ≤ 65536 }
-    requires all { All (λ j. j < rows) (named operands.now i 2) }
+    requires roots_inside { All (λ j. j < rows) (named operands.now i 2) }
     ensures { RowsPrinted text.now statements.now operands.now attributes.now rows (named operands.now i 2) work.old out.old work.new out.new result }
 {
     let n = put_root(text, statements, operands, attributes, work, rows, i, out);
@@ -110,7 +110,7 @@ pub fn put_before(
 ) -> usize
     requires prepared { Prepared text.now statements.now operands.now rows work.old }
     requires first_bound { item.operands.first ≤ 65536 }
-    requires all { All (λ j. j < rows) (first_roots operands.now item) }
+    requires roots_inside { All (λ j. j < rows) (first_roots operands.now item) }
     ensures { RowsPrinted text.now statements.now operands.now attributes.now rows (first_roots operands.now item) work.old out.old work.new out.new result }
 {
     if item.kind == code::INFER_RESULT {
@@ -160,7 +160,7 @@ pub fn put_between(
     out: &mut [u8],
 ) -> usize
     requires prepared { Prepared text.now statements.now operands.now rows work.old }
-    requires all { All (λ j. j < rows) (second_roots operands.now item) }
+    requires roots_inside { All (λ j. j < rows) (second_roots operands.now item) }
     ensures { RowsPrinted text.now statements.now operands.now attributes.now rows (second_roots operands.now item) work.old out.old work.new out.new result }
 {
     if item.kind == code::INFER_RESULT {

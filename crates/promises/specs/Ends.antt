@@ -16,11 +16,11 @@ use Rattle.promises.specs.Sequences.{FirstBad}
 
 -- ---- reads
 -- a table as it was lent and as it is left: n rows of so many words each, and zeros behind them
-pub record RowsLeft (size n : ℕ) (lentTable left : List ℕ) : Type 0 where
+pub record RowsLeft (size n : ℕ) (lent_table left : List ℕ) : Type 0 where
   pub rows : List ℕ
   pub long : length rows ≡ n * size
-  pub fit : n * size ≤ length lentTable
-  pub behind : left ≡ rows ++ replicate (length lentTable - n * size) 0
+  pub fit : n * size ≤ length lent_table
+  pub behind : left ≡ rows ++ replicate (length lent_table - n * size) 0
 
 -- all words 0
 abbrev pub cleared : List ℕ → List ℕ

@@ -104,7 +104,7 @@ fn range(text: &[u8], s: State, attributes: &mut [u32]) -> State
 // An attribute that is a keyword alone.
 fn flag(text: &[u8], s: State, attributes: &mut [u32], k: u8) -> State
     requires text_len_bound { length text.now ≤ 65536 }
-    requires lt_k { 8 < k }
+    requires k_above { 8 < k }
     ensures { (I : List ℕ) (S : List ℕ) (O : List ℕ) → stands text.now result I S O attributes.new ≡ run (stands text.now s I S O attributes.old) (R.flag k) }
 {
     close(

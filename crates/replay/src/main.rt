@@ -1,8 +1,8 @@
 // Replays a sample of the comparison with the Rust crate. Each line of standard input is a question, and what is said of it is one line: reads.rt has
-// the readings, prints.rt the prints and names.
+// the readings, print_lines.rt the prints and names.
 #![tactic(auto)]
 
-mod prints;
+mod print_lines;
 mod reads;
 
 // Reads up to 524,288 bytes of lines.
@@ -25,9 +25,9 @@ fn replay_all(rt: &impl Print, lines: &[u8]) {
 // Answers the question of a line.
 fn replay(rt: &impl Print, line: &[u8]) {
     match vector_lines::letter(line, 0) {
-        b'P' => prints::replay_print(rt, line),
-        b'D' => prints::replay_damaged(rt, line),
-        b'N' => prints::replay_name(rt, line),
+        b'P' => print_lines::replay_print(rt, line),
+        b'D' => print_lines::replay_damaged(rt, line),
+        b'N' => print_lines::replay_name(rt, line),
         _ => reads::replay_read(rt, line),
     }
 }

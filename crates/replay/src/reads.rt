@@ -35,7 +35,7 @@ fn read_rows(
     operands: usize,
     attributes: usize,
 ) -> Answer
-    requires bound { items ≤ 15 }
+    requires items_bound { items ≤ 15 }
     requires statements_bound { statements ≤ 15 }
     requires operands_bound { operands ≤ 15 }
     requires attributes_bound { attributes ≤ 15 }

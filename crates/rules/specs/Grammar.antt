@@ -122,7 +122,7 @@ pub data AttributeInner : List Token → syntax.Attribute → Type 0 where
   non_zero : AttributeInner (word "nonZero" ∷ []) syntax.non_zero
   has_external_uses : AttributeInner (word "hasExternalUses" ∷ []) syntax.has_external_uses
   sign_bits : {w : List ℕ} {n : ℕ} → fits 8 (integer w) ≡ number n → AttributeInner (word "signBits" ∷ equals ∷ int w ∷ []) (syntax.sign_bits n)
-  in-range : {v w : List ℕ} {a b : ℕ} → integer v ≡ number a → integer w ≡ number b
+  in_range : {v w : List ℕ} {a b : ℕ} → integer v ≡ number a → integer w ≡ number b
       → AttributeInner (word "range" ∷ equals ∷ open_bracket ∷ int v ∷ comma ∷ int w ∷ close_paren ∷ []) (syntax.range a b)
 
 -- and between a root attribute's: demandedBits, '=' and an integer whose letters are all 0 or 1; or a word

@@ -68,7 +68,7 @@ fn inside_numbers(tag: u64, first: u32, size: u32, lo: u8, hi: u8, more: u8) -> 
 // The same of a refusal, whose place has all 64 bits.
 fn stopped_numbers(number: u32, place: u64) -> Numbers
     ensures value { result ≡ numbers_of 7 place number 0 0 0 0 }
-    ensures number_value { low_of number ≡ number }
+    ensures fits { low_of number ≡ number }
 {
     Numbers {
         tag: 7,
@@ -84,7 +84,7 @@ fn stopped_numbers(number: u32, place: u64) -> Numbers
 // A mode as numbers.
 fn numbers_of_mode(m: Mode) -> Numbers
     ensures value { result ≡ mode_numbers m }
-    ensures result_value { mode_of result ≡ m }
+    ensures reads_back { mode_of result ≡ m }
 {
     match m {
         Mode::Gap => plain_numbers(0, 0, 0, 0),
@@ -107,7 +107,7 @@ fn numbers_of_mode(m: Mode) -> Numbers
 // Where the check of UTF-8 stands, as numbers.
 fn numbers_of_sequence(s: Sequence) -> Numbers
     ensures value { result ≡ sequence_numbers s }
-    ensures result_value { sequence_of result ≡ s }
+    ensures reads_back { sequence_of result ≡ s }
 {
     match s {
         Sequence::Between => plain_numbers(0, 0, 0, 0),
@@ -210,7 +210,7 @@ pub fn state_of(words: &[u64]) -> Stream
 // A count that a word takes and gives back.
 fn counted(n: u32) -> u64
     ensures value { result ≡ n }
-    ensures n_value { low_of n ≡ n }
+    ensures fits { low_of n ≡ n }
 {
     n as u64
 }

@@ -73,7 +73,8 @@ pub fn refuse(s: State, what: u32, at: Spot) -> State
     ensures { (text : List ℕ) (I : List ℕ) (S : List ℕ) (O : List ℕ) (A : List ℕ) → stands text result I S O A ≡ run (stands text s I S O A) (W.refuse what at) }
 {
     let mut t = s;
-    if t.fault != fault::NONE {
+    let refused = t.fault != fault::NONE;
+    if refused {
         return t;
     }
     t.fault = what;

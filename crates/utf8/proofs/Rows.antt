@@ -70,7 +70,7 @@ in_row k lo hi rs s e l g h a z =
     ∙ rw (inside_yes lo hi b a z, none b t hi rows g z)
 
 -- the first byte is from lo to hi, between the first k rows and the others: no row has it
-pub in-no-row :
+pub in_no_row :
     (k lo hi : ℕ) (s : List ℕ)
     → sequences ≡ take k sequences ++ drop k sequences
     → less lo (take k sequences) ≡ true
@@ -80,7 +80,7 @@ pub in-no-row :
     → get_or s 0 0 ≤ hi
     → seq_len s ≡ 0
 unfolding seq_len
-in-no-row k lo hi s e l g h a z =
+in_no_row k lo hi s e l g h a z =
     let b = get_or s 0 0 in
     let t = drop 1 s in
     ap (longest sequences) (parted s h)

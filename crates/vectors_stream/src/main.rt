@@ -103,8 +103,8 @@ fn in_parts(text: &[u8], bytes: usize) -> LexReport
 
 // The lesser of two numbers.
 fn least(a: usize, b: usize) -> usize
-    requires le_a { 1 ≤ a }
-    requires le_b { 1 ≤ b }
+    requires a_positive { 1 ≤ a }
+    requires b_positive { 1 ≤ b }
     ensures { (1 ≤ result) × (result ≤ b) }
 {
     if a < b {

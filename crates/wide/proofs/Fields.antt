@@ -13,8 +13,8 @@ use Rattle.laws.proofs.Cases.{by_cases}
 pub apart : {v : ℕ} → number v ≡ refused → ⊥
 apart e = let w : ◌≡◌ {A = ℕ} 0 1 = cc in omega arith
 
-pub in-below : (n u : ℕ) {v : ℕ} → v ≡ u → v < n → number v ≡ below n (number u)
-in-below n u {v} e h = sym (rw (lt-ltb v n h)) ∙ ap (λ (x : ℕ). below n (number x)) e
+pub in_below : (n u : ℕ) {v : ℕ} → v ≡ u → v < n → number v ≡ below n (number u)
+in_below n u {v} e h = sym (rw (lt-ltb v n h)) ∙ ap (λ (x : ℕ). below n (number x)) e
 
 pub out_below : (n u : ℕ) → n ≤ u → refused ≡ below n (number u)
 out_below n u h = sym (rw (le-ltb u n h))

@@ -11,7 +11,7 @@ use borrow.Author.Tests.{ltb-true, ltb-false, leb-true, eq-eqb, ne_eqb}
 use Rattle.rules.specs.Bytes.{byte}
 use Rattle.rules.specs.Integers.{Read, number, refused, below, fits, unsigned, minus, opposite, integer, positive, type_width}
 use Rattle.laws.proofs.Runs.{rest}
-use Rattle.wide.proofs.Fields.{in-below, out_below, below_in, below_less}
+use Rattle.wide.proofs.Fields.{in_below, out_below, below_in, below_less}
 
 -- the first byte is looked at only where there is one
 pub integer_none : (s : List ℕ) → length s ≡ 0 → refused ≡ integer s
@@ -55,7 +55,7 @@ module _ (s : List ℕ) (sign : get_or s 0 0 ≡ byte "-") where
     minus-out t = sym (minus_is ∙ ap minus (sym (out_below (2 ^ 127 + 1) v (ltb-true (2 ^ 127) v t))))
 
     pub minus_in : ltb (2 ^ 127) v ≡ false → {r : ℕ} → r ≡ opposite v → number r ≡ integer s
-    minus_in t o = ap number o ∙ sym (minus_is ∙ ap minus (sym (in-below (2 ^ 127 + 1) v refl (suc-le-suc (ltb-false (2 ^ 127) v t)))))
+    minus_in t o = ap number o ∙ sym (minus_is ∙ ap minus (sym (in_below (2 ^ 127 + 1) v refl (suc-le-suc (ltb-false (2 ^ 127) v t)))))
 
 -- digits alone
 module _ (s : List ℕ) (sign : get_or s 0 0 ≡ byte "-" → ⊥) where
@@ -74,7 +74,7 @@ module _ (s : List ℕ) (sign : get_or s 0 0 ≡ byte "-" → ⊥) where
     plus_out t = sym (plus_is ∙ sym (out_below (2 ^ 127) v (ltb-true (2 ^ 127 - 1) v t)))
 
     pub plus_in : ltb (2 ^ 127 - 1) v ≡ false → number v ≡ integer s
-    plus_in t = sym (plus_is ∙ sym (in-below (2 ^ 127) v refl (suc-le-suc (ltb-false (2 ^ 127 - 1) v t))))
+    plus_in t = sym (plus_is ∙ sym (in_below (2 ^ 127) v refl (suc-le-suc (ltb-false (2 ^ 127 - 1) v t))))
 
 -- 'i' and digits
 pub type-other : (s : List ℕ) → (get_or s 0 0 ≡ byte "i" → ⊥) → refused ≡ type_width s

@@ -5,7 +5,7 @@ use Prim.Native.Nat.{ℕ, ◌+◌, ◌-◌, ◌*◌, ◌/◌, ◌%◌, ◌^◌, 
 use native.Mathlib.Omega.{arith}
 use borrow.Author.Tests.{leb-true}
 use Rattle.rules.specs.Integers.{number, refused, fits}
-use Rattle.wide.proofs.Fields.{in-below, out_below}
+use Rattle.wide.proofs.Fields.{in_below, out_below}
 use Rattle.wide.proofs.Halves.{lt_high, le_high, only-low, ten_high}
 
 -- a chain of divisions by ten: hi, then what is left of it with each half of lo
@@ -43,14 +43,14 @@ rest_small lo d = omega arith
 pub over_ten : (h c : ℕ) → c < 10 → (18446744073709551615 - c) / 10 < h → 2 ^ 64 ≤ h * 10 + c
 over_ten h c a b = omega arith
 
-pub in-ten : (h c : ℕ) → c < 10 → h ≤ (18446744073709551615 - c) / 10 → h * 10 + c < 2 ^ 64
-in-ten h c a b = omega arith
+pub in_ten : (h c : ℕ) → c < 10 → h ≤ (18446744073709551615 - c) / 10 → h * 10 + c < 2 ^ 64
+in_ten h c a b = omega arith
 
 module _ (h l d : ℕ) (a : l < 2 ^ 64) (b : d < 10) where
   pub shift_in : h ≤ (18446744073709551615 - carry10 l d) / 10 → number ((h * 10 + carry10 l d) * 2 ^ 64 + rest10 l d) ≡ fits 128 (number ((h * 2 ^ 64 + l) * 10 + d))
   shift_in k =
-      in-below (2 ^ 128) ((h * 2 ^ 64 + l) * 10 + d) (ten_high (2 ^ 64) h l d (carry10 l d) (rest10 l d) (ten_low l d))
-      (lt_high (2 ^ 64) (rest10 l d) 0 (in-ten h (carry10 l d) (carry_small l d a b) k) (rest_small l d))
+      in_below (2 ^ 128) ((h * 2 ^ 64 + l) * 10 + d) (ten_high (2 ^ 64) h l d (carry10 l d) (rest10 l d) (ten_low l d))
+      (lt_high (2 ^ 64) (rest10 l d) 0 (in_ten h (carry10 l d) (carry_small l d a b) k) (rest_small l d))
 
   pub shift_out : (18446744073709551615 - carry10 l d) / 10 < h → refused ≡ fits 128 (number ((h * 2 ^ 64 + l) * 10 + d))
   shift_out k =
@@ -67,7 +67,7 @@ module _ {h : ℕ} (l d : ℕ) (z : h ≡ 0) (a : l < 1844674407370955161) (b : 
 
   pub short_in : number (0 * 2 ^ 64 + (l * 10 + d)) ≡ fits 128 (number ((h * 2 ^ 64 + l) * 10 + d))
   short_in =
-      in-below (2 ^ 128) ((h * 2 ^ 64 + l) * 10 + d) (low (2 ^ 64) h l d z)
+      in_below (2 ^ 128) ((h * 2 ^ 64 + l) * 10 + d) (low (2 ^ 64) h l d z)
       (lt_high (2 ^ 64) {h = 0} {k = 2 ^ 64} (l * 10 + d) 0 (leb-true 1 (2 ^ 64) refl) short-fits)
     where
       low : (B h l d : ℕ) → h ≡ 0 → 0 * B + (l * 10 + d) ≡ (h * B + l) * 10 + d

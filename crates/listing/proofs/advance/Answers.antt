@@ -42,7 +42,7 @@ pub trace-depth-requires : goal.trace-depth-requires
 trace-depth-requires c =
     let turn : Turn c.args.statements.now c.args.operands.now c.args.rows c.args.work.now c.args.walk.depth c.loop-depth.work c.loop-depth.depth = record { sound = c.requires.sound; going = c.loop-depth.invariant; more = c.loop-depth-test.true } in
     let u = turn in
-    record { sound = u.sound; ready = turn_ready u; row_lt_rows = turn_counted u; depth_value = turn_trace u c.if-entry-eq1.false; row_value = search (rules, said_not) }
+    record { sound = u.sound; ready = turn_ready u; row_lt_rows = turn_counted u; traced = turn_trace u c.if-entry-eq1.false; unmarked = search (rules, said_not) }
 
 pub loop-depth-smaller-then-unmarked : goal.loop-depth-smaller-then-unmarked
 loop-depth-smaller-then-unmarked c =

@@ -9,30 +9,30 @@ use Rattle.listing.proofs.trace.Goals as goal
 
 pub overflow_add-work-2 : goal.overflow_add-work-2
 overflow_add-work-2 c =
-    let room : c.args.rows + c.args.depth + (size c.args.statements.now c.args.row + 2) < length c.args.work.now = trace-room _ _ _ c.requires.sound _ _ _ c.requires.ready c.requires.row_lt_rows c.requires.depth_value c.requires.row_value in
+    let room : c.args.rows + c.args.depth + (size c.args.statements.now c.args.row + 2) < length c.args.work.now = trace-room _ _ _ c.requires.sound _ _ _ c.requires.ready c.requires.row_lt_rows c.requires.traced c.requires.unmarked in
     omega (arith, room)
 
 pub offset_bounds-work-base : goal.offset_bounds-work-base
 offset_bounds-work-base c =
-    let room : c.args.rows + c.args.depth + (size c.args.statements.now c.args.row + 2) < length c.args.work.now = trace-room _ _ _ c.requires.sound _ _ _ c.requires.ready c.requires.row_lt_rows c.requires.depth_value c.requires.row_value in
+    let room : c.args.rows + c.args.depth + (size c.args.statements.now c.args.row + 2) < length c.args.work.now = trace-room _ _ _ c.requires.sound _ _ _ c.requires.ready c.requires.row_lt_rows c.requires.traced c.requires.unmarked in
     omega (arith, room)
 
 pub bounds-work-base : goal.bounds-work-base
 bounds-work-base c =
-    let room : c.args.rows + c.args.depth + (size c.args.statements.now c.args.row + 2) < length c.args.work.now = trace-room _ _ _ c.requires.sound _ _ _ c.requires.ready c.requires.row_lt_rows c.requires.depth_value c.requires.row_value in
+    let room : c.args.rows + c.args.depth + (size c.args.statements.now c.args.row + 2) < length c.args.work.now = trace-room _ _ _ c.requires.sound _ _ _ c.requires.ready c.requires.row_lt_rows c.requires.traced c.requires.unmarked in
     omega (arith, room, c.mark.auto.work)
 
 pub overflow_add-depth : goal.overflow_add-depth
 overflow_add-depth c =
-    let room : c.args.rows + c.args.depth + (size c.args.statements.now c.args.row + 2) < length c.args.work.now = trace-room _ _ _ c.requires.sound _ _ _ c.requires.ready c.requires.row_lt_rows c.requires.depth_value c.requires.row_value in
+    let room : c.args.rows + c.args.depth + (size c.args.statements.now c.args.row + 2) < length c.args.work.now = trace-room _ _ _ c.requires.sound _ _ _ c.requires.ready c.requires.row_lt_rows c.requires.traced c.requires.unmarked in
     omega (arith, room)
 
 pub push_references-requires : goal.push_references-requires
 push_references-requires c =
-    let room : c.args.rows + c.args.depth + (size c.args.statements.now c.args.row + 2) < length c.args.work.now = trace-room _ _ _ c.requires.sound _ _ _ c.requires.ready c.requires.row_lt_rows c.requires.depth_value c.requires.row_value in
+    let room : c.args.rows + c.args.depth + (size c.args.statements.now c.args.row + 2) < length c.args.work.now = trace-room _ _ _ c.requires.sound _ _ _ c.requires.ready c.requires.row_lt_rows c.requires.traced c.requires.unmarked in
     let so = c.requires.sound in
-    let i = c.args.row in record { statement_length_in_bounds = omega (arith, so.whole, so.few); operand_length_in_bounds = so.inside i c.requires.row_lt_rows; row_in_bounds = simp length-set (omega (arith, room, c.mark.auto.work)); all = references-below _ _ _ so i c.requires.row_lt_rows }
+    let i = c.args.row in record { row_inside = omega (arith, so.whole, so.few); operands_inside = so.inside i c.requires.row_lt_rows; room = simp length-set (omega (arith, room, c.mark.auto.work)); small_rows = references-below _ _ _ so i c.requires.row_lt_rows }
 
 pub returns : goal.returns
 returns c =
-    traced _ _ _ c.requires.sound _ _ _ c.requires.ready c.requires.row_lt_rows c.requires.depth_value c.requires.row_value _ c.mark.ensures _ _ c.push_references.auto.work c.push_references.ensures
+    traced _ _ _ c.requires.sound _ _ _ c.requires.ready c.requires.row_lt_rows c.requires.traced c.requires.unmarked _ c.mark.ensures _ _ c.push_references.auto.work c.push_references.ensures

@@ -4,10 +4,10 @@ use Prim.Native.Nat.{ℕ}
 use Rattle.rules.specs.Answers.{refusal}
 use Rattle.peldarox.proofs.finish.Goals as goal
 
-pub returns-then-s-ne-NONE : goal.returns-then-s-ne-NONE
-returns-then-s-ne-NONE c text =
+pub returns-then-refuses : goal.returns-then-refuses
+returns-then-refuses c text =
     let s = c.args.s in
-    endings.same_ends _ _ _ _ _ _ _ _ _ _ _ _ (ap (λ (n : ℕ). refusal n s.last.first) c.number_of.ensures ∙ endings.faulty text s c.args.items.now c.args.statements.now c.args.operands.now c.args.attributes.now c.if-s-ne-NONE.true) refl refl refl refl c.refused.ensures
+    endings.same_ends _ _ _ _ _ _ _ _ _ _ _ _ (ap (λ (n : ℕ). refusal n s.last.first) c.number_of.ensures ∙ endings.faulty text s c.args.items.now c.args.statements.now c.args.operands.now c.args.attributes.now c.if-refuses.true) refl refl refl refl c.refused.ensures
 
 pub returns : goal.returns
-returns c text = endings.counted _ _ _ _ _ _ _ _ _ c.clear_tables.ensures text c.if-s-ne-NONE.false
+returns c text = endings.counted _ _ _ _ _ _ _ _ _ c.clear_tables.ensures text c.if-refuses.false

@@ -7,7 +7,7 @@ use native.Mathlib.Omega.{arith}
 use Rattle.printer.proofs.put_items.Goals as goal
 
 pub loop-i-init : goal.loop-i-init
-loop-i-init c = going_start c.requires.prepared c.requires.rows_value c.requires.owned
+loop-i-init c = going_start c.requires.prepared c.requires.unmarked c.requires.owned
 
 pub item_at-item-requires : goal.item_at-item-requires
 item_at-item-requires c = tt
@@ -25,7 +25,7 @@ pub slice_bounds-put_item-end : goal.slice_bounds-put_item-end
 slice_bounds-put_item-end c = le_refl _
 
 pub put_item-n-requires : goal.put_item-n-requires
-put_item-n-requires c = record { prepared = c.loop-i.invariant.prepared; rows_value = c.loop-i.invariant.marks; own = going_own c.loop-i.invariant c.loop-i-test.true c.requires.owned c.item_at-item.ensures }
+put_item-n-requires c = record { prepared = c.loop-i.invariant.prepared; unmarked = c.loop-i.invariant.marks; own = going_own c.loop-i.invariant c.loop-i-test.true c.requires.owned c.item_at-item.ensures }
 
 pub overflow_add-n : goal.overflow_add-n
 overflow_add-n c = record { fits = chain_fits (going_item c.loop-i.invariant c.loop-i-test.true) (item_wrote c.loop-i.invariant c.item_at-item.ensures c.put_item-n.ensures.wrote) }

@@ -7,11 +7,11 @@ use Rattle.tables.specs.Stands.{out, run}
 use Rattle.tables.proofs.Steps as step
 use Rattle.tables.proofs.refuse.Goals as goal
 
-pub returns-then-t-ne-NONE : goal.returns-then-t-ne-NONE
-returns-then-t-ne-NONE c text I S O A = step.halts _ _ _ _ _ _ _ tt c.if-t-ne-NONE.true
+pub returns-then-refused : goal.returns-then-refused
+returns-then-refused c text I S O A = step.halts _ _ _ _ _ _ _ tt c.if-refused.true
 
 pub returns : goal.returns
 unfolding out run
 returns c text I S O A =
     let real : c.args.what ≡ 0 → ⊥ = λ e. omega arith in
-    simp (eq-eqb _ _ c.if-t-ne-NONE.false, ne_eqb _ _ real)
+    simp (eq-eqb _ _ c.if-refused.false, ne_eqb _ _ real)

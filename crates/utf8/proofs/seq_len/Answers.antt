@@ -2,7 +2,7 @@ use mathlib.Core.Path.{refl, sym, ◌∙◌}
 use native.Mathlib.Omega.{arith}
 use Rattle.rules.specs.Utf8.{seq_len}
 use Rattle.laws.proofs.Runs.{empty}
-use Rattle.utf8.proofs.Rows.{in_row, in-no-row}
+use Rattle.utf8.proofs.Rows.{in_row, in_no_row}
 use borrow.Author.Rules.{rules}
 use Rattle.utf8.proofs.seq_len.Goals as goal
 
@@ -38,7 +38,7 @@ pub returns-in-241-to-243 : goal.returns-in-241-to-243
 returns-in-241-to-243 c = c.four-in-241-to-243.ensures ∙ sym (in_row 7 _ _ _ _ refl refl refl (search rules) (omega arith) (omega arith))
 
 pub returns-in_default : goal.returns-in_default
-returns-in_default c = sym (in-no-row 1 0x80 0xC1 _ refl refl refl (search rules) (omega arith) (omega arith))
+returns-in_default c = sym (in_no_row 1 0x80 0xC1 _ refl refl refl (search rules) (omega arith) (omega arith))
 
 pub returns-in_default-2 : goal.returns-in_default-2
-returns-in_default-2 c = sym (in-no-row 9 0xF5 0xFF _ refl refl refl (search rules) (omega arith) (omega (arith, c.shared_slice_known-2-1.given 0)))
+returns-in_default-2 c = sym (in_no_row 9 0xF5 0xFF _ refl refl refl (search rules) (omega arith) (omega (arith, c.shared_slice_known-2-1.given 0)))

@@ -26,7 +26,7 @@ put_typing-n-requires c = tt
 pub overflow_add-n : goal.overflow_add-n
 overflow_add-n c =
     let a = c.args in
-    let g1 = assignment_begin a.text.now c.requires.text_len_bound a.statements.now a.operands.now a.attributes.now a.row c.requires.code_value c.requires.few c.requires.few_attributes c.put_letters-n.ensures in
+    let g1 = assignment_begin a.text.now c.requires.text_len_bound a.statements.now a.operands.now a.attributes.now a.row c.requires.no_condition c.requires.few c.requires.few_attributes c.put_letters-n.ensures in
     record { fits = chain_fits g1 c.put_typing-n.ensures }
 
 pub least-at-requires-2 : goal.least-at-requires-2
@@ -47,7 +47,7 @@ put-n-requires c = tt
 pub overflow_add-n-2 : goal.overflow_add-n-2
 overflow_add-n-2 c =
     let a = c.args in
-    let g1 = assignment_begin a.text.now c.requires.text_len_bound a.statements.now a.operands.now a.attributes.now a.row c.requires.code_value c.requires.few c.requires.few_attributes c.put_letters-n.ensures in
+    let g1 = assignment_begin a.text.now c.requires.text_len_bound a.statements.now a.operands.now a.attributes.now a.row c.requires.no_condition c.requires.few c.requires.few_attributes c.put_letters-n.ensures in
     let g2 = chain_more g1 c.least-at.ensures c.put_typing-n.ensures in
     record { fits = chain_fits g2 c.put-n.ensures }
 
@@ -69,7 +69,7 @@ put_side-n-requires c = record { text_len_bound = c.requires.text_len_bound; few
 pub overflow_add-n-3 : goal.overflow_add-n-3
 overflow_add-n-3 c =
     let a = c.args in
-    let g1 = assignment_begin a.text.now c.requires.text_len_bound a.statements.now a.operands.now a.attributes.now a.row c.requires.code_value c.requires.few c.requires.few_attributes c.put_letters-n.ensures in
+    let g1 = assignment_begin a.text.now c.requires.text_len_bound a.statements.now a.operands.now a.attributes.now a.row c.requires.no_condition c.requires.few c.requires.few_attributes c.put_letters-n.ensures in
     let g2 = chain_more g1 c.least-at.ensures c.put_typing-n.ensures in
     let g3 = chain_more g2 c.least-at-2.ensures c.put-n.ensures in
     record { fits = chain_fits g3 c.put_side-n.ensures }
@@ -92,7 +92,7 @@ put_attributes-n-requires c = record { text_len_bound = c.requires.text_len_boun
 pub overflow_add-n-4 : goal.overflow_add-n-4
 overflow_add-n-4 c =
     let a = c.args in
-    let g1 = assignment_begin a.text.now c.requires.text_len_bound a.statements.now a.operands.now a.attributes.now a.row c.requires.code_value c.requires.few c.requires.few_attributes c.put_letters-n.ensures in
+    let g1 = assignment_begin a.text.now c.requires.text_len_bound a.statements.now a.operands.now a.attributes.now a.row c.requires.no_condition c.requires.few c.requires.few_attributes c.put_letters-n.ensures in
     let g2 = chain_more g1 c.least-at.ensures c.put_typing-n.ensures in
     let g3 = chain_more g2 c.least-at-2.ensures c.put-n.ensures in
     let g4 = chain_more g3 c.least-at-3.ensures c.put_side-n.ensures in
@@ -116,7 +116,7 @@ put-requires c = tt
 pub overflow_add-result : goal.overflow_add-result
 overflow_add-result c =
     let a = c.args in
-    let g1 = assignment_begin a.text.now c.requires.text_len_bound a.statements.now a.operands.now a.attributes.now a.row c.requires.code_value c.requires.few c.requires.few_attributes c.put_letters-n.ensures in
+    let g1 = assignment_begin a.text.now c.requires.text_len_bound a.statements.now a.operands.now a.attributes.now a.row c.requires.no_condition c.requires.few c.requires.few_attributes c.put_letters-n.ensures in
     let g2 = chain_more g1 c.least-at.ensures c.put_typing-n.ensures in
     let g3 = chain_more g2 c.least-at-2.ensures c.put-n.ensures in
     let g4 = chain_more g3 c.least-at-3.ensures c.put_side-n.ensures in
@@ -126,7 +126,7 @@ overflow_add-result c =
 pub returns : goal.returns
 returns c =
     let a = c.args in
-    let g1 = assignment_begin a.text.now c.requires.text_len_bound a.statements.now a.operands.now a.attributes.now a.row c.requires.code_value c.requires.few c.requires.few_attributes c.put_letters-n.ensures in
+    let g1 = assignment_begin a.text.now c.requires.text_len_bound a.statements.now a.operands.now a.attributes.now a.row c.requires.no_condition c.requires.few c.requires.few_attributes c.put_letters-n.ensures in
     let g2 = chain_more g1 c.least-at.ensures c.put_typing-n.ensures in
     let g3 = chain_more g2 c.least-at-2.ensures c.put-n.ensures in
     let g4 = chain_more g3 c.least-at-3.ensures c.put_side-n.ensures in

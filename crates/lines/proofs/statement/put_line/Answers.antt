@@ -27,7 +27,7 @@ pub returns-then-row-eq-BLOCKPC : goal.returns-then-row-eq-BLOCKPC
 returns-then-row-eq-BLOCKPC c = written (ap (λ (s : Statement). line s []) (blockpc-seen _ _ _ _ _ c.statement_at-row.ensures c.if-row-eq-BLOCKPC.true)) c.put_blockpc.ensures
 
 pub put_assignment-requires : goal.put_assignment-requires
-put_assignment-requires c = record { code_value = other_code _ c.if-row-eq-PC.false c.if-row-eq-BLOCKPC.false; text_len_bound = c.requires.text_len_bound; few = (subst (λ (r : Row). Few r.operands) (sym c.statement_at-row.ensures) c.requires.few); few_attributes = (subst (λ (r : Row). Few r.attributes) (sym c.statement_at-row.ensures) c.requires.few_attributes) }
+put_assignment-requires c = record { no_condition = other_code _ c.if-row-eq-PC.false c.if-row-eq-BLOCKPC.false; text_len_bound = c.requires.text_len_bound; few = (subst (λ (r : Row). Few r.operands) (sym c.statement_at-row.ensures) c.requires.few); few_attributes = (subst (λ (r : Row). Few r.attributes) (sym c.statement_at-row.ensures) c.requires.few_attributes) }
 
 pub returns : goal.returns
 returns c = written (ap (λ (s : Statement). line s []) (statement-seen _ _ _ _ _ c.statement_at-row.ensures)) c.put_assignment.ensures

@@ -1,13 +1,13 @@
--- `listing::stack::has_block_lem` meets its contract.
+-- `listing::stack::has_block` meets its contract.
 -- Assumes nothing.
 use Rattle.laws.proofs.Tests.{tests}
 use Rattle.rules.specs.WellFormed.{has_block}
 use Rattle.listing.proofs.stack.has_block.Goals as goal
 
-pub returns-then-kind-eq-PHI : goal.returns-then-kind-eq-PHI
+pub returns-then-is_phi : goal.returns-then-is_phi
 unfolding has_block
-returns-then-kind-eq-PHI c = search tests
+returns-then-is_phi c = search tests
 
-pub returns-else-kind-eq-PHI : goal.returns-else-kind-eq-PHI
+pub returns-else-is_phi : goal.returns-else-is_phi
 unfolding has_block
-returns-else-kind-eq-PHI c = search tests
+returns-else-is_phi c = search tests

@@ -33,7 +33,7 @@ bounds-operands-at-then-operands-at-eq-VALUE c = omega arith
 
 pub overflow_mul-work : goal.overflow_mul-work
 overflow_mul-work c =
-    omega (arith, pushing_below _ _ _ _ _ _ _ _ _ c.loop-k.invariant 65536 c.requires.all c.loop-k-test.true c.if-operands-at-eq-VALUE.true)
+    omega (arith, pushing_below _ _ _ _ _ _ _ _ _ c.loop-k.invariant 65536 c.requires.small_rows c.loop-k-test.true c.if-operands-at-eq-VALUE.true)
 
 pub overflow_add-work-then-operands-at-eq-VALUE : goal.overflow_add-work-then-operands-at-eq-VALUE
 overflow_add-work-then-operands-at-eq-VALUE c = omega arith

@@ -15,42 +15,42 @@ use Rattle.listing.proofs.stack.push_references.Goals as goal
 pub push_operands-t-requires : goal.push_operands-t-requires
 unfolding statement_at size
 push_operands-t-requires c =
-    record { operand_length_in_bounds = c.requires.operand_length_in_bounds; first_in_bounds = omega arith; all = named-below _ _ c.args.row 65536 c.requires.all }
+    record { operands_inside = c.requires.operands_inside; room = omega arith; small_rows = named-below _ _ c.args.row 65536 c.requires.small_rows }
 
 pub overflow_mul-work : goal.overflow_mul-work
 overflow_mul-work c =
     let told : has_block (get_or c.args.statements.now (c.args.row * statement_length) 0) ≡ true = said c.has_block.ensures c.if-has_block.true in
-    omega (arith, block-below _ _ c.args.row 65536 c.requires.all told)
+    omega (arith, block-below _ _ c.args.row 65536 c.requires.small_rows told)
 
 pub overflow_add-work-then-has_block : goal.overflow_add-work-then-has_block
 unfolding statement_at size
 overflow_add-work-then-has_block c =
-    let fits : c.args.base + c.push_operands-t.result < length c.push_operands-t.new.work = omega (arith, c.push_operands-t.ensures.fits, c.push_operands-t.auto.work, c.requires.row_in_bounds) in
+    let fits : c.args.base + c.push_operands-t.result < length c.push_operands-t.new.work = omega (arith, c.push_operands-t.ensures.fits, c.push_operands-t.auto.work, c.requires.room) in
     omega (arith, fits)
 
 pub offset_bounds-work-base : goal.offset_bounds-work-base
 unfolding statement_at size
 offset_bounds-work-base c =
-    let fits : c.args.base + c.push_operands-t.result < length c.push_operands-t.new.work = omega (arith, c.push_operands-t.ensures.fits, c.push_operands-t.auto.work, c.requires.row_in_bounds) in
+    let fits : c.args.base + c.push_operands-t.result < length c.push_operands-t.new.work = omega (arith, c.push_operands-t.ensures.fits, c.push_operands-t.auto.work, c.requires.room) in
     omega (arith, fits)
 
 pub bounds-work-base : goal.bounds-work-base
 unfolding statement_at size
 bounds-work-base c =
-    let fits : c.args.base + c.push_operands-t.result < length c.push_operands-t.new.work = omega (arith, c.push_operands-t.ensures.fits, c.push_operands-t.auto.work, c.requires.row_in_bounds) in
+    let fits : c.args.base + c.push_operands-t.result < length c.push_operands-t.new.work = omega (arith, c.push_operands-t.ensures.fits, c.push_operands-t.auto.work, c.requires.room) in
     omega (arith, fits)
 
 pub overflow_add-result : goal.overflow_add-result
 unfolding statement_at size
 overflow_add-result c =
-    let fits : c.args.base + c.push_operands-t.result < length c.push_operands-t.new.work = omega (arith, c.push_operands-t.ensures.fits, c.push_operands-t.auto.work, c.requires.row_in_bounds) in
+    let fits : c.args.base + c.push_operands-t.result < length c.push_operands-t.new.work = omega (arith, c.push_operands-t.ensures.fits, c.push_operands-t.auto.work, c.requires.room) in
     omega (arith, fits)
 
 pub returns-then-has_block : goal.returns-then-has_block
 unfolding statement_at size
 returns-then-has_block c =
     let told : has_block (get_or c.args.statements.now (c.args.row * statement_length) 0) ≡ true = said c.has_block.ensures c.if-has_block.true in
-    let fits : c.args.base + c.push_operands-t.result < length c.push_operands-t.new.work = omega (arith, c.push_operands-t.ensures.fits, c.push_operands-t.auto.work, c.requires.row_in_bounds) in
+    let fits : c.args.base + c.push_operands-t.result < length c.push_operands-t.new.work = omega (arith, c.push_operands-t.ensures.fits, c.push_operands-t.auto.work, c.requires.room) in
     pushed_block _ _ c.args.row _ _ _ _ _ c.push_operands-t.ensures told (omega (arith, fits))
 
 pub returns : goal.returns

@@ -1,4 +1,4 @@
--- `parser::names::in_scope_lem` meets its contract.
+-- `parser::names::in_scope` meets its contract.
 -- Assumes nothing.
 use Rattle.parser.proofs.Scope.{searched}
 use Rattle.parser.proofs.names.in_scope.Goals as goal

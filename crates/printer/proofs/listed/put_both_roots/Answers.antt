@@ -8,7 +8,7 @@ use Rattle.printer.proofs.Roots.{named_both, both_low, first-low, second-low, ro
 use Rattle.printer.proofs.listed.put_both_roots.Goals as goal
 
 pub put_root-n-requires : goal.put_root-n-requires
-put_root-n-requires c = record { prepared = c.requires.prepared; all = first-low _ _ _ c.requires.all }
+put_root-n-requires c = record { prepared = c.requires.prepared; roots_inside = first-low _ _ _ c.requires.roots_inside }
 
 pub least-at-requires : goal.least-at-requires
 least-at-requires c = tt
@@ -23,17 +23,17 @@ pub slice_bounds-put_root-end : goal.slice_bounds-put_root-end
 slice_bounds-put_root-end c = le_refl _
 
 pub put_root-requires : goal.put_root-requires
-put_root-requires c = record { prepared = c.put_root-n.ensures.prepared; all = second-low _ _ _ c.requires.all }
+put_root-requires c = record { prepared = c.put_root-n.ensures.prepared; roots_inside = second-low _ _ _ c.requires.roots_inside }
 
 pub overflow_add-result : goal.overflow_add-result
 overflow_add-result c =
     let a = c.args in
-    let g = both_begin a.text.now a.statements.now a.operands.now a.attributes.now a.rows (named a.operands.now a.i 1) (named a.operands.now (a.i + 1) 1) c.requires.prepared (both_low _ _ _ c.requires.all) c.put_root-n.ensures in
+    let g = both_begin a.text.now a.statements.now a.operands.now a.attributes.now a.rows (named a.operands.now a.i 1) (named a.operands.now (a.i + 1) 1) c.requires.prepared (both_low _ _ _ c.requires.roots_inside) c.put_root-n.ensures in
     record { fits = chain_fits g c.put_root.ensures.wrote }
 
 pub returns : goal.returns
 returns c =
     let a = c.args in
-    let g = both_begin a.text.now a.statements.now a.operands.now a.attributes.now a.rows (named a.operands.now a.i 1) (named a.operands.now (a.i + 1) 1) c.requires.prepared (both_low _ _ _ c.requires.all) c.put_root-n.ensures in
+    let g = both_begin a.text.now a.statements.now a.operands.now a.attributes.now a.rows (named a.operands.now a.i 1) (named a.operands.now (a.i + 1) 1) c.requires.prepared (both_low _ _ _ c.requires.roots_inside) c.put_root-n.ensures in
     rows_as _ _ _ _ _ (named_both _ _)
-    (both_done a.text.now a.statements.now a.operands.now a.attributes.now a.rows (named a.operands.now a.i 1) (named a.operands.now (a.i + 1) 1) c.requires.prepared (both_low _ _ _ c.requires.all) c.put_root-n.ensures c.put_root.ensures (chain_done (chain_more g c.least-at.ensures c.put_root.ensures.wrote)))
+    (both_done a.text.now a.statements.now a.operands.now a.attributes.now a.rows (named a.operands.now a.i 1) (named a.operands.now (a.i + 1) 1) c.requires.prepared (both_low _ _ _ c.requires.roots_inside) c.put_root-n.ensures c.put_root.ensures (chain_done (chain_more g c.least-at.ensures c.put_root.ensures.wrote)))

@@ -7,7 +7,7 @@ pub operand_at-row-requires : goal.operand_at-row-requires
 operand_at-row-requires c = tt
 
 pub put_listed-requires : goal.put_listed-requires
-put_listed-requires c = record { prepared = c.requires.prepared; root_lt_rows = value_low _ _ _ c.operand_at-row.ensures c.if-row-eq-VALUE.true c.requires.all }
+put_listed-requires c = record { prepared = c.requires.prepared; root_lt_rows = value_low _ _ _ c.operand_at-row.ensures c.if-row-eq-VALUE.true c.requires.roots_inside }
 
 pub returns-then-row-eq-VALUE : goal.returns-then-row-eq-VALUE
 returns-then-row-eq-VALUE c = rows_as _ _ _ _ _ (named_value _ _ c.operand_at-row.ensures c.if-row-eq-VALUE.true) c.put_listed.ensures

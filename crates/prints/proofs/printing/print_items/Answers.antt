@@ -13,7 +13,7 @@ measure-bytes-requires c =
     let cleared = c.clear in
     let zero = prints.cleared (length args.work.now) args.work.now refl cleared.ensures in
     let none = prints.no_marks (length args.work.now) zero args.rows in
-    record { prepared = pre.prepared cleared.new.table cleared.auto.table none; rows_value = none; owned = pre.owned }
+    record { prepared = pre.prepared cleared.new.table cleared.auto.table none; unmarked = none; owned = pre.owned }
 
 pub returns-then-output-bytes : goal.returns-then-output-bytes
 returns-then-output-bytes c =

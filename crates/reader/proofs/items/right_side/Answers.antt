@@ -1,4 +1,4 @@
--- `reader::items::right_side_lem` meets its contract.
+-- `reader::items::right_side` meets its contract.
 -- Assumes nothing.
 use Rattle.rules.specs.Reading as R
 use Rattle.tables.specs.Stands.{world}

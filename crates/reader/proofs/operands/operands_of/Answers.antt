@@ -1,4 +1,4 @@
--- `reader::operands::operands_of_lem` meets its contract.
+-- `reader::operands::operands_of` meets its contract.
 -- Assumes nothing.
 use Rattle.reader.specs.Commas.{operands_behind}
 use Rattle.reader.proofs.operands.operands_of.Goals as goal

@@ -1,4 +1,4 @@
--- `store::loading::in_order_lem` meets its contract.
+-- `store::loading::in_order` meets its contract.
 -- Assumes nothing.
 use mathlib.Core.Path.{refl}
 use Rattle.rules.specs.Stored.{in_order}

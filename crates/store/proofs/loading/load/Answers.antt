@@ -7,35 +7,35 @@ use Rattle.store.proofs.Parts.{shaped, parts_inside, parts_whole}
 use Rattle.store.proofs.Loads.{bad_shape, small, roomed, malformed, accepted, load_refused, load_all, answer_is, told, over_text}
 use Rattle.store.proofs.loading.load.Goals as goal
 
-pub returns-then-fault-ne0 : goal.returns-then-fault-ne0
-returns-then-fault-ne0 c = load_refused _ _ _ _ _ _ (bad_shape _ _ (λ e. c.if-fault-ne0.true (c.shape-fault.ensures ∙ e)) ∙ ap refused (sym c.shape-fault.ensures))
+pub returns-then-misshapen : goal.returns-then-misshapen
+returns-then-misshapen c = load_refused _ _ _ _ _ _ (bad_shape _ _ (λ e. c.if-misshapen.true (c.shape-fault.ensures ∙ e)) ∙ ap refused (sym c.shape-fault.ensures))
 
 pub lengths-l-requires : goal.lengths-l-requires
-lengths-l-requires c = (shaped _ (sym c.shape-fault.ensures ∙ c.if-fault-ne0.false)).long
+lengths-l-requires c = (shaped _ (sym c.shape-fault.ensures ∙ c.if-misshapen.false)).long
 
 pub returns-then-not-roomy : goal.returns-then-not-roomy
-returns-then-not-roomy c = load_refused _ _ _ _ _ 15 (small _ _ (sym c.shape-fault.ensures ∙ c.if-fault-ne0.false) (said_not (told _ _ c.roomy.ensures c.lengths-l.ensures) c.if-not-roomy.true-raw))
+returns-then-not-roomy c = load_refused _ _ _ _ _ 15 (small _ _ (sym c.shape-fault.ensures ∙ c.if-misshapen.false) (said_not (told _ _ c.roomy.ensures c.lengths-l.ensures) c.if-not-roomy.true-raw))
 
-pub formed-requires : goal.formed-requires
-formed-requires c = record { within = parts_inside _ c.lengths-l.ensures (sym c.shape-fault.ensures ∙ c.if-fault-ne0.false); whole = parts_whole _ c.lengths-l.ensures (sym c.shape-fault.ensures ∙ c.if-fault-ne0.false) }
+pub formed-malformed-requires : goal.formed-malformed-requires
+formed-malformed-requires c = record { within = parts_inside _ c.lengths-l.ensures (sym c.shape-fault.ensures ∙ c.if-misshapen.false); whole = parts_whole _ c.lengths-l.ensures (sym c.shape-fault.ensures ∙ c.if-misshapen.false) }
 
-pub returns-then-not-formed : goal.returns-then-not-formed
-returns-then-not-formed c = load_refused _ _ _ _ _ 8
-    (roomed _ _ (sym c.shape-fault.ensures ∙ c.if-fault-ne0.false) (said_not_not (told _ _ c.roomy.ensures c.lengths-l.ensures) c.if-not-roomy.false-raw)
+pub returns-then-malformed : goal.returns-then-malformed
+returns-then-malformed c = load_refused _ _ _ _ _ 8
+    (roomed _ _ (sym c.shape-fault.ensures ∙ c.if-misshapen.false) (said_not_not (told _ _ c.roomy.ensures c.lengths-l.ensures) c.if-not-roomy.false-raw)
     ∙ ap (content _) (sym c.lengths-l.ensures)
-    ∙ malformed _ _ (said_not c.formed.ensures c.if-not-formed.true-raw))
+    ∙ malformed _ _ (said_not c.formed-malformed.ensures c.if-malformed.true-raw))
 
 pub take_parts-requires : goal.take_parts-requires
-take_parts-requires c = record { within = parts_inside _ c.lengths-l.ensures (sym c.shape-fault.ensures ∙ c.if-fault-ne0.false); roomy = said_not_not c.roomy.ensures c.if-not-roomy.false-raw }
+take_parts-requires c = record { within = parts_inside _ c.lengths-l.ensures (sym c.shape-fault.ensures ∙ c.if-misshapen.false); roomy = said_not_not c.roomy.ensures c.if-not-roomy.false-raw }
 
 pub returns : goal.returns
 returns c =
     let t = c.take_parts.ensures in
     let l = c.lengths-l.result in
     let file = c.args.file.now in
-    let inside = parts_inside file c.lengths-l.ensures (sym c.shape-fault.ensures ∙ c.if-fault-ne0.false) in
+    let inside = parts_inside file c.lengths-l.ensures (sym c.shape-fault.ensures ∙ c.if-misshapen.false) in
     load_all _ _ _ _ _ _ _ _ _ _
-    (roomed _ _ (sym c.shape-fault.ensures ∙ c.if-fault-ne0.false) (said_not_not (told _ _ c.roomy.ensures c.lengths-l.ensures) c.if-not-roomy.false-raw)
+    (roomed _ _ (sym c.shape-fault.ensures ∙ c.if-misshapen.false) (said_not_not (told _ _ c.roomy.ensures c.lengths-l.ensures) c.if-not-roomy.false-raw)
     ∙ ap (content file) (sym c.lengths-l.ensures)
-    ∙ accepted file l (said_not_not c.formed.ensures c.if-not-formed.false-raw))
+    ∙ accepted file l (said_not_not c.formed-malformed.ensures c.if-malformed.false-raw))
     (answer_is file l inside) (over_text file l _ inside t.text_after) t.items_after t.statements_after t.operands_after t.attributes_after

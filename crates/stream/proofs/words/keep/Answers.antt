@@ -15,5 +15,5 @@ returns c =
     let q = c.numbers_of_sequence-q.ensures in
     record {
       words = p ∙ state-words s _ _ _ _ _ a.value t.value m.value q.value;
-      back = ap decoded p ∙ state-back s _ _ _ _ _ (ap low_of a.value ∙ a.n_value) (ap low_of t.value ∙ t.n_value) m.result_value q.result_value;
+      back = ap decoded p ∙ state-back s _ _ _ _ _ (ap low_of a.value ∙ a.fits) (ap low_of t.value ∙ t.fits) m.reads_back q.reads_back;
     }

@@ -7,12 +7,12 @@ use Rattle.stream.proofs.words.numbers_of_sequence.Goals as goal
 
 pub returns-in-Between : goal.returns-in-Between
 unfolding sequence_numbers sequence_of
-returns-in-Between c = record { value = c.plain_numbers.ensures.value ∙ ap sequence_numbers (sym c.in-Between.is); result_value = ap sequence_of c.plain_numbers.ensures.value ∙ sym c.in-Between.is }
+returns-in-Between c = record { value = c.plain_numbers.ensures.value ∙ ap sequence_numbers (sym c.in-Between.is); reads_back = ap sequence_of c.plain_numbers.ensures.value ∙ sym c.in-Between.is }
 
 pub returns-in-Inside : goal.returns-in-Inside
 unfolding sequence_numbers sequence_of
-returns-in-Inside c = record { value = c.inside_numbers.ensures.value ∙ ap sequence_numbers (sym c.in-Inside.is); result_value = ap sequence_of c.inside_numbers.ensures.value ∙ inside_back c.inside_numbers.ensures.small ∙ sym c.in-Inside.is }
+returns-in-Inside c = record { value = c.inside_numbers.ensures.value ∙ ap sequence_numbers (sym c.in-Inside.is); reads_back = ap sequence_of c.inside_numbers.ensures.value ∙ inside_back c.inside_numbers.ensures.small ∙ sym c.in-Inside.is }
 
 pub returns-in-Bad : goal.returns-in-Bad
 unfolding sequence_numbers sequence_of
-returns-in-Bad c = record { value = c.plain_numbers-in-Bad.ensures.value ∙ ap sequence_numbers (sym c.in-Bad.is); result_value = ap sequence_of c.plain_numbers-in-Bad.ensures.value ∙ bad_back c.plain_numbers-in-Bad.ensures.small ∙ sym c.in-Bad.is }
+returns-in-Bad c = record { value = c.plain_numbers-in-Bad.ensures.value ∙ ap sequence_numbers (sym c.in-Bad.is); reads_back = ap sequence_of c.plain_numbers-in-Bad.ensures.value ∙ bad_back c.plain_numbers-in-Bad.ensures.small ∙ sym c.in-Bad.is }

@@ -1,4 +1,4 @@
--- `item_ok_lem` meets its contract.
+-- `item_ok` meets its contract.
 -- Assumes nothing.
 use Rattle.rules.specs.WellFormed.{item_ok}
 use Rattle.wellformed.proofs.Clauses.{passed, failed}

@@ -1,4 +1,4 @@
--- `is_name_lem` meets its contract.
+-- `is_name` meets its contract.
 -- Assumes nothing.
 use borrow.Author.Tests.{le-leb, eq-eqb}
 use Rattle.rules.specs.Bytes.{name_byte}

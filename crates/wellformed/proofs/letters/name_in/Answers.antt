@@ -1,4 +1,4 @@
--- `name_in_lem` meets its contract.
+-- `name_in` meets its contract.
 -- Assumes nothing.
 use mathlib.Core.Path.{ap, ◌∙◌}
 use borrow.Author.Tests.{le-leb, lt-leb}

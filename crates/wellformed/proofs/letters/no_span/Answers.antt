@@ -1,4 +1,4 @@
--- `no_span_lem` meets its contract.
+-- `no_span` meets its contract.
 -- Assumes nothing.
 use Rattle.rules.specs.WellFormed.{no_span}
 use Rattle.wellformed.proofs.Clauses.{clauses}

@@ -1,4 +1,4 @@
--- `refers_to_lem` meets its contract.
+-- `refers_to` meets its contract.
 -- Assumes nothing.
 use mathlib.Core.Path.{ap, ◌∙◌}
 use Rattle.rules.specs.WellFormed.{refers_to, is_assignment}

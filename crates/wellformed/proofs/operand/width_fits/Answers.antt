@@ -1,4 +1,4 @@
--- `width_fits_lem` meets its contract.
+-- `width_fits` meets its contract.
 -- Assumes nothing.
 use Rattle.rules.specs.WellFormed.{width_fits}
 use Rattle.wellformed.proofs.Clauses.{clauses}

@@ -1,4 +1,4 @@
--- `has_block_lem` meets its contract.
+-- `has_block` meets its contract.
 -- Assumes nothing.
 use Rattle.rules.specs.WellFormed.{has_block}
 use Rattle.wellformed.proofs.Clauses.{clauses}

@@ -2,7 +2,7 @@ use Prim.Native.Nat.{◌+◌, ◌^◌}
 use mathlib.Core.Path.{sym}
 use native.Mathlib.Omega.{arith}
 use Rattle.wide.specs.Wide.{bits}
-use Rattle.wide.proofs.Fields.{in-below, out_below}
+use Rattle.wide.proofs.Fields.{in_below, out_below}
 use Rattle.wide.proofs.Halves.{only-low}
 use Rattle.wide.proofs.Wide.fits.Goals as goal
 
@@ -17,4 +17,4 @@ returns-then-self-most c =
 pub returns : goal.returns
 returns c =
     let at = c.args in
-    in-below (at.most + 1) (bits at.self) (sym (only-low (2 ^ 64) at.self.lo (omega arith))) (omega arith)
+    in_below (at.most + 1) (bits at.self) (sym (only-low (2 ^ 64) at.self.lo (omega arith))) (omega arith)

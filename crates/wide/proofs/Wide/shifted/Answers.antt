@@ -1,6 +1,6 @@
 use native.Mathlib.Omega.{arith}
 use borrow.Author.Tests.{ltb-true}
-use Rattle.wide.proofs.Tens.{short-mul, short-fits, short_in, carry10, carry_small, in-ten, shift_in, shift_out}
+use Rattle.wide.proofs.Tens.{short-mul, short-fits, short_in, carry10, carry_small, in_ten, shift_in, shift_out}
 use Rattle.wide.proofs.Wide.shifted.Goals as goal
 
 pub overflow_mul-result : goal.overflow_mul-result
@@ -32,7 +32,7 @@ pub overflow_add-result-2 : goal.overflow_add-result-2
 overflow_add-result-2 c =
     let at = c.args in
     let small = carry_small at.self.lo at.d (omega arith) (omega arith) in
-    record { fits = in-ten at.self.hi (carry10 at.self.lo at.d) small c.if-carry-self.false }
+    record { fits = in_ten at.self.hi (carry10 at.self.lo at.d) small c.if-carry-self.false }
 
 pub returns : goal.returns
 returns c =
