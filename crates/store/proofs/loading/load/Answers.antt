@@ -1,5 +1,6 @@
 -- `store::loading::load` meets its contract.
 -- Assumes nothing.
+use borrow.Author.Rules.{rules}
 use mathlib.Core.Path.{sym, ap, ◌∙◌}
 use Rattle.laws.proofs.Tests.{said_not, said_not_not}
 use Rattle.rules.specs.Stored.{refused, content}
@@ -23,7 +24,7 @@ pub returns-then-malformed : goal.returns-then-malformed
 returns-then-malformed c = load_refused _ _ _ _ _ 8
     (roomed _ _ (sym c.shape-fault.ensures ∙ c.if-misshapen.false) (said_not_not (told _ _ c.roomy.ensures c.lengths-l.ensures) c.if-not-roomy.false-raw)
     ∙ ap (content _) (sym c.lengths-l.ensures)
-    ∙ malformed _ _ (said_not c.formed-malformed.ensures c.if-malformed.true-raw))
+    ∙ malformed c.args.file.now c.lengths-l.result (search (rules, said_not)))
 
 pub take_parts-requires : goal.take_parts-requires
 take_parts-requires c = record { within = parts_inside _ c.lengths-l.ensures (sym c.shape-fault.ensures ∙ c.if-misshapen.false); roomy = said_not_not c.roomy.ensures c.if-not-roomy.false-raw }
@@ -37,5 +38,5 @@ returns c =
     load_all _ _ _ _ _ _ _ _ _ _
     (roomed _ _ (sym c.shape-fault.ensures ∙ c.if-misshapen.false) (said_not_not (told _ _ c.roomy.ensures c.lengths-l.ensures) c.if-not-roomy.false-raw)
     ∙ ap (content file) (sym c.lengths-l.ensures)
-    ∙ accepted file l (said_not_not c.formed-malformed.ensures c.if-malformed.false-raw))
+    ∙ accepted file l (search (rules, said_not_not)))
     (answer_is file l inside) (over_text file l _ inside t.text_after) t.items_after t.statements_after t.operands_after t.attributes_after
