@@ -9,7 +9,7 @@ use native.Mathlib.Omega.{arith}
 use borrow.Author.Tests.{le-leb}
 use lib.ListN.{length}
 use Rattle.rules.specs.declared.Entry.{Entry}
-use Rattle.rules.specs.declared.Answer.TheVariants as answer
+use Rattle.rules.specs.Answer as answer
 use Rattle.rules.specs.Rows.{item_at, item_length, statement_length, operand_length, attribute_length}
 use Rattle.rules.specs.Syntax.{flat}
 use Rattle.rules.specs.View.{each}

@@ -9,8 +9,7 @@ use borrow.Author.Tests.{le-leb, lt-ltb, eqb-true, eqb-false}
 use lib.Dec.{eqb}
 use lib.ListN.{length}
 use Rattle.rules.specs.declared.Spot.{Spot}
-use Rattle.rules.specs.declared.Row.{Row}
-use Rattle.rules.specs.declared.Row.TheVariants.{At, Missing}
+use Rattle.std.specs.Prelude.{Option, Some, None}
 use Rattle.rules.specs.Bytes.{same}
 use Rattle.rules.specs.Faults as fault
 use Rattle.rules.specs.Keywords as keyword
@@ -50,19 +49,19 @@ pub rows_later : {text : List ℕ} {f : ℕ} {t u : Tables} → Later t u → u.
 rows_later l e r = record { low = omega (arith, r.low); row = λ i h k. fine_later l (r.row i h (omega arith)) }
 
 -- what a search among k rows from one on finds
-abbrev Searched : List ℕ → List ℕ → List ℕ → ℕ → ℕ → Row → Type 0
-Searched text S name first k (At r) = (first ≤ r) × ((r < first + k) × (name_at text S r ≡ name))
-Searched text S name first k Missing = (i : ℕ) → first ≤ i → i < first + k → same (name_at text S i) name ≡ false
+abbrev Searched : List ℕ → List ℕ → List ℕ → ℕ → ℕ → Option ℕ → Type 0
+Searched text S name first k (Some r) = (first ≤ r) × ((r < first + k) × (name_at text S r ≡ name))
+Searched text S name first k None = (i : ℕ) → first ≤ i → i < first + k → same (name_at text S i) name ≡ false
 
 searched : (text S name : List ℕ) (first k : ℕ) → Searched text S name first k (find_row text S name first k)
 unfolding find_row
 searched text S name first zero = λ i h l. absurd (let z : ⊥ = omega arith in z)
 searched text S name first (suc k) = by (same (name_at text S (first + k)) name) refl (find_row text S name first k) (searched text S name first k)
   where
-    by : (b : Bool) → same (name_at text S (first + k)) name ≡ b → (row : Row) → Searched text S name first k row → Searched text S name first (suc k) (cond b (At (first + k)) row)
+    by : (b : Bool) → same (name_at text S (first + k)) name ≡ b → (row : Option ℕ) → Searched text S name first k row → Searched text S name first (suc k) (cond b (Some (first + k)) row)
     by true e row h = (omega arith, (omega arith, same_true _ _ e))
-    by false e (At r) h = (h.0, (omega arith, h.1.1))
-    by false e Missing h =
+    by false e (Some r) h = (h.0, (omega arith, h.1.1))
+    by false e None h =
         λ i l m.
         by_cases (eqb i (first + k))
         (λ q. subst (λ (j : ℕ). same (name_at text S j) name ≡ false) (sym (eqb-true _ _ q)) e)
@@ -106,9 +105,9 @@ module _ {text : List ℕ} {f : ℕ} (t : Tables) (rs : Rows text f t) where
   unfolding R.value asks R.known
   value-reads s z = read_then _ (expect-reads t kind.val_name s z) (λ x v y q. by x v y q (R.in_scope x (world text f v t)) (scoped x v))
     where
-      by : (x : Spot) (v : Stand) → Sits text v → Word text x × (x.kind ≡ kind.val_name) → (row : Row) → Searched text S (letters text x) f (t.statements.count - f) row → Reads text f t Value (R.known row x (world text f v t))
-      by x v y q (At r) h = let low = rs.low in reads r v y (found-value x q.0 q.1 r h.0 (omega (arith, h.1.0)) h.1.1)
-      by x v y q Missing h = refuses _ _
+      by : (x : Spot) (v : Stand) → Sits text v → Word text x × (x.kind ≡ kind.val_name) → (row : Option ℕ) → Searched text S (letters text x) f (t.statements.count - f) row → Reads text f t Value (R.known row x (world text f v t))
+      by x v y q (Some r) h = let low = rs.low in reads r v y (found-value x q.0 q.1 r h.0 (omega (arith, h.1.0)) h.1.1)
+      by x v y q None h = refuses _ _
 
   -- a name that no row has
   pub record New (x : Spot) : Type 0 where
@@ -120,9 +119,9 @@ module _ {text : List ℕ} {f : ℕ} (t : Tables) (rs : Rows text f t) where
   unfolding R.new_name asks R.fresh
   name-reads s z = read_then _ (expect-reads t kind.val_name s z) (λ x v y q. by x v y q (R.in_scope x (world text f v t)) (scoped x v))
     where
-      by : (x : Spot) (v : Stand) → Sits text v → Word text x × (x.kind ≡ kind.val_name) → (row : Row) → Searched text S (letters text x) f (t.statements.count - f) row → Reads text f t New ((R.fresh row x >>= λ u. give x) (world text f v t))
-      by x v y q (At r) h = refuses _ _
-      by x v y q Missing h = reads x v y (record { word = q.0; kind = q.1; new = λ i a b. h i a (omega arith) })
+      by : (x : Spot) (v : Stand) → Sits text v → Word text x × (x.kind ≡ kind.val_name) → (row : Option ℕ) → Searched text S (letters text x) f (t.statements.count - f) row → Reads text f t New ((R.fresh row x >>= λ u. give x) (world text f v t))
+      by x v y q (Some r) h = refuses _ _
+      by x v y q None h = reads x v y (record { word = q.0; kind = q.1; new = λ i a b. h i a (omega arith) })
 
   -- a row that is a block's
   pub record Block (r : ℕ) : Type 0 where
@@ -134,8 +133,8 @@ module _ {text : List ℕ} {f : ℕ} (t : Tables) (rs : Rows text f t) where
   unfolding R.block asks R.block_at refers_to_block among
   block_reads s z = read_then _ (expect-reads t kind.val_name s z) (λ x v y q. by x v y (R.in_scope x (world text f v t)) (scoped x v))
     where
-      by : (x : Spot) (v : Stand) → Sits text v → (row : Row) → Searched text S (letters text x) f (t.statements.count - f) row → Reads text f t Block (R.block_at row x (world text f v t))
-      by x v y (At r) h = is (eqb (statement_at S r).code (keyword_code keyword.block)) refl
+      by : (x : Spot) (v : Stand) → Sits text v → (row : Option ℕ) → Searched text S (letters text x) f (t.statements.count - f) row → Reads text f t Block (R.block_at row x (world text f v t))
+      by x v y (Some r) h = is (eqb (statement_at S r).code (keyword_code keyword.block)) refl
         where
           is : (b : Bool) → eqb (statement_at S r).code (keyword_code keyword.block) ≡ b → Reads text f t Block (cond b (go r (world text f v t)) (stop fault.no_block x))
           is true e =
@@ -148,4 +147,4 @@ module _ {text : List ℕ} {f : ℕ} (t : Tables) (rs : Rows text f t) where
                 refers = λ u q. let c = q.statement r l in rw c (and_both (and_both (le-leb f r h.0) (lt-ltb r t.statements.count l)) e);
               })
           is false e = refuses _ _
-      by x v y Missing h = refuses _ _
+      by x v y None h = refuses _ _

@@ -8,12 +8,11 @@ use native.Mathlib.Omega.{arith}
 use borrow.Author.Tests.{eqb-true, eqb-false, ltb-false}
 use lib.Dec.{eqb, ltb}
 use lib.ListN.{length}
-use Rattle.rules.specs.declared.Checked.{Checked}
-use Rattle.rules.specs.declared.Checked.TheVariants.{WellFormed, IllFormed}
+use Rattle.std.specs.Prelude.{Ok, Err}
 use Rattle.rules.specs.declared.Span.{Span}
 use Rattle.rules.specs.declared.Item.{Item}
 use Rattle.rules.specs.declared.Entry.{Entry}
-use Rattle.rules.specs.Utf8.{checked}
+use Rattle.rules.specs.Utf8.{checked, Checked}
 use Rattle.rules.specs.Rows.{item_at}
 use Rattle.rules.specs.Syntax.{flat}
 use Rattle.rules.specs.View.{each}
@@ -153,8 +152,8 @@ module _ (e : Entry) (text : List ℕ) (l : Lent) where
 
   checked_itemed : length text ≤ 65536 → (c : Checked) (t : Tables) → read_checked c e text l ≡ accepted t → ItemedAll text none t
   unfolding read_checked
-  checked_itemed short WellFormed t h = ended (R.items e (start text l)) (whole short) t h
-  checked_itemed short (IllFormed p) t h = absurd (let z : ◌≡◌ {A = ℕ} 0 1 = cc in omega arith)
+  checked_itemed short (Ok u) t h = ended (R.items e (start text l)) (whole short) t h
+  checked_itemed short (Err p) t h = absurd (let z : ◌≡◌ {A = ℕ} 0 1 = cc in omega arith)
 
   pub accepted-short : (t : Tables) → reading e text l ≡ accepted t → length text ≤ 65536
   unfolding reading

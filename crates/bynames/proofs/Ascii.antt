@@ -11,7 +11,7 @@ use lib.ListN.{length, get_or}
 use borrow.Author.Tests.{leb-true, le-leb, eqb-true, eq-eqb}
 use Rattle.rules.specs.Bytes.{bytes, inside, digit, letter, name_byte, pattern_byte, far, bit}
 use Rattle.rules.specs.Utf8.{seq_len, checked}
-use Rattle.rules.specs.declared.Checked.TheVariants.{WellFormed}
+use Rattle.std.specs.Prelude.{Ok}
 use Rattle.rules.specs.Integers.{decimal}
 use Rattle.rules.specs.Instructions.{Instruction, instructions, instruction_name, ◌takes◌}
 use Rattle.rules.specs.Tokens.{int_start}
@@ -41,7 +41,7 @@ all_long : (s : List ℕ) → ascii s ≡ true → far seq_len 0 s ≡ length s
 all_long [] h = refl
 all_long (b ∷ s) h = rw (one_long b s (and_left (leb b 127) (ascii s) h)) (ap suc (all_long s (and_right (leb b 127) (ascii s) h)))
 
-pub ascii-checked : (s : List ℕ) → ascii s ≡ true → checked s ≡ WellFormed
+pub ascii-checked : (s : List ℕ) → ascii s ≡ true → checked s ≡ Ok tt
 ascii-checked s h = rw (all_long s h, eq-eqb (length s) (length s) refl)
 
 -- ---- bytes
@@ -156,9 +156,9 @@ root_attribute_keeps : (a : RootAttribute) → RootAttributeOk a → Keeps (root
 root_attribute_keeps (demanded_bits p) o r k = pattern-keeps bit bit-low p o r k
 root_attribute_keeps harvested_from_use o r k = k
 
-attributes_keep : {A : Type 0} (one : A → List ℕ → List ℕ) (Ok : A → Type 0) → ((a : A) → Ok a → Keeps (one a)) → (l : List A) → All Ok l → Keeps (attributes one l)
-attributes_keep one Ok f [] h r k = k
-attributes_keep one Ok f (a ∷ l) h r k = f a h.0 (bytes ")" ++ attributes one l r) (attributes_keep one Ok f l h.1 r k)
+attributes_keep : {A : Type 0} (one : A → List ℕ → List ℕ) (Fine : A → Type 0) → ((a : A) → Fine a → Keeps (one a)) → (l : List A) → All Fine l → Keeps (attributes one l)
+attributes_keep one Fine f [] h r k = k
+attributes_keep one Fine f (a ∷ l) h r k = f a h.0 (bytes ")" ++ attributes one l r) (attributes_keep one Fine f l h.1 r k)
 
 -- ---- lines and items
 lines_keep : (l t : List Statement) → All Plain l → Wf (onto l t) → Keeps (lines l)
@@ -199,5 +199,5 @@ printed-ascii e (x ∷ xs) v =
     (first-keeps x.closing v.0.wf.ok (lines (listed_between x) rest)
     (lines_keep (listed_between x) (onto (listed_before x) []) (plain_between_lem x v.0.wf) w rest (second-keeps x.closing v.0.wf.ok (printed_all xs) (printed-ascii e xs v.1))))
 
-pub printed-checked : (e : Entry) (xs : List Item) → All (Readable e) xs → checked (printed_all xs) ≡ WellFormed
+pub printed-checked : (e : Entry) (xs : List Item) → All (Readable e) xs → checked (printed_all xs) ≡ Ok tt
 printed-checked e xs v = ascii-checked (printed_all xs) (printed-ascii e xs v)

@@ -6,8 +6,8 @@ use Prim.Native.Nat.{ℕ, ◌*◌}
 use Prim.Native.String.{String}
 use Rattle.rules.specs.declared.Entry.{Entry}
 use Rattle.rules.specs.declared.Entry.TheVariants.{Replacements, LeftHandSides, RightHandSides}
-use Rattle.rules.specs.declared.Answer.{Answer}
-use Rattle.rules.specs.declared.Answer.TheVariants.{Read, Printed, Refused}
+use Rattle.rules.specs.Answer.{Answer}
+use Rattle.rules.specs.Answer.{Read, Printed, Refused}
 use Rattle.rules.specs.Bytes.{bytes, inside, digit, letter, name_byte, pattern_byte, line_byte, same}
 use Rattle.rules.specs.Utf8 as utf8
 use Rattle.rules.specs.Space as space

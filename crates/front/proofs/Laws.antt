@@ -8,8 +8,8 @@ use native.Mathlib.Omega.{arith}
 use borrow.Author.Tests.{le-ltb}
 use lib.ListN.{length}
 use Rattle.rules.specs.declared.Entry.{Entry}
-use Rattle.rules.specs.declared.Answer.{Answer}
-use Rattle.rules.specs.declared.Answer.TheVariants as answer
+use Rattle.rules.specs.Answer.{Answer}
+use Rattle.rules.specs.Answer as answer
 use Rattle.rules.specs.World.{Tables}
 use Rattle.rules.specs.View.{items_of}
 use Rattle.rules.specs.WellFormed.{counts, well_formed}
@@ -70,11 +70,6 @@ module _ (e : Entry) (text I S O A work output : List ℕ) (roomy : Roomy I S O 
     by_refusal (accepted t) n p h told = absurd (let z : ◌≡◌ {A = ℕ} 0 1 = cc in omega arith)
     by_refusal (refusal m q) n p h told = record { answers = rw h told; bytes = rw h refl }
 
-    no_print : (o : Outcome) (n : ℕ) → answer.Printed n ≡ answer_of o → ⊥
-    unfolding answer_of
-    no_print (accepted t) n told = let z : ◌≡◌ {A = ℕ} 0 1 = cc in omega arith
-    no_print (refusal m q) n told = let z : ◌≡◌ {A = ℕ} 0 1 = cc in omega arith
-
     -- by what a read answered
     module _ (x : Answer) (h : Reads e text I S O A x I' S' O' A') where
       pub tells_print : (i s o a : ℕ) → x ≡ answer.Read i s o a → (r : Answer) (work' output' : List ℕ) → Prints text I' S' O' A' (counts i s o a) work output r work' output' → Tells e text output r output'
@@ -82,7 +77,3 @@ module _ (e : Entry) (text I S O A work output : List ℕ) (roomy : Roomy I S O 
 
       pub tells-refusal : (n p : ℕ) → x ≡ answer.Refused n p → Tells e text output (answer.Refused n p) output
       tells-refusal n p q = by_refusal (reading e text room) n p refl (sym q ∙ h.answers ∙ ap (λ l. answer_of (reading e text l)) same_room)
-
-      -- a read never answers that it printed
-      pub tells-nothing : (n : ℕ) → x ≡ answer.Printed n → Tells e text output (answer.Printed n) output
-      tells-nothing n q = absurd (no_print (reading e text (lent I S O A)) n (sym q ∙ h.answers))

@@ -8,8 +8,8 @@ use native.Mathlib.Omega.{arith}
 use borrow.Author.Tests.{le-ltb}
 use lib.ListN.{length}
 use Rattle.rules.specs.declared.Entry.{Entry}
-use Rattle.rules.specs.declared.Answer.{Answer}
-use Rattle.rules.specs.declared.Answer.TheVariants as answer
+use Rattle.rules.specs.Answer.{Answer}
+use Rattle.rules.specs.Answer as answer
 use Rattle.rules.specs.Answers.{Outcome, accepted, refusal, reading, start}
 use Rattle.rules.specs.Prints.{fitting, print_answer}
 use Rattle.reading.proofs.Fuel.{refused-number}

@@ -2,8 +2,8 @@
 -- Assumes nothing.
 use Rattle.std.specs.Prelude.{ℕ, ◌≡◌, List, length}
 use Rattle.rules.specs.declared.Entry.{Entry}
-use Rattle.rules.specs.declared.Answer.{Answer}
-use Rattle.rules.specs.declared.Answer.TheVariants as answer
+use Rattle.rules.specs.Answer.{Answer}
+use Rattle.rules.specs.Answer as answer
 use Rattle.rules.specs.View.{items_of}
 use Rattle.rules.specs.Printing.{printed_all}
 use Rattle.rules.specs.World.{Tables}

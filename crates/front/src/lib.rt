@@ -7,36 +7,46 @@
 
 pub mod console;
 
-ghost use Rattle.std.specs.Prelude.{◌≡◌, length};
 ghost use Rattle.rules.specs.Answers.{Reads};
+ghost use Rattle.rules.specs.Results.{read_answer, print_answer};
 ghost use Rattle.front.specs.Told.{Tells};
 
-use rules::{Answer, Entry};
+use rules::{Counts, Entry, Refusal};
 use std::io::Read;
+
+// The words of the tables that a program lends: 32,768 rows of items, 21,846 of statements and attributes, 65,536 of operands.
+pub const ITEMS: usize = 294912;
+
+pub const STATEMENTS: usize = 218460;
+
+pub const OPERANDS: usize = 458752;
+
+pub const ATTRIBUTES: usize = 240306;
+
+// The words of the work area that a program lends to a print.
+pub const WORK: usize = 131073;
 
 // Prints what standard input lists, or says in a line why it is refused.
 pub fn run(from: &mut impl Read, out: &impl Print, err: &impl Print, entry: Entry) {
     let mut text = [0u8; 65537];
     let mut output = [0u8; 131072];
-    let input = console::fill(from, &mut text);
-    if input.failed {
-        console::complain(err, b"standard input cannot be read\n");
+    let Ok(n) = input::fill(from, &mut text) else {
+        console::complain(err, "standard input cannot be read");
         return;
-    }
-    let n = input.bytes;
-    let answer = print_text(entry, &text[..n], &mut output);
-    console::tell(out, err, answer, &output);
+    };
+    let printed = print_text(entry, &text[..n], &mut output);
+    console::tell(out, err, printed, &output);
 }
 
 // The print of a text at the front of the output, and how long it is; or why it is refused.
-pub fn print_text(entry: Entry, text: &[u8], output: &mut [u8]) -> Answer
-    ensures { Tells entry text.now output.old result output.new }
+pub fn print_text(entry: Entry, text: &[u8], output: &mut [u8]) -> Result<u64, Refusal>
+    ensures { Tells entry text.now output.old (print_answer result) output.new }
 {
-    let mut items = [0u32; 294912];
-    let mut statements = [0u32; 218460];
-    let mut operands = [0u32; 458752];
-    let mut attributes = [0u32; 240306];
-    let mut work = [0u32; 131073];
+    let mut items = [0u32; ITEMS];
+    let mut statements = [0u32; STATEMENTS];
+    let mut operands = [0u32; OPERANDS];
+    let mut attributes = [0u32; ATTRIBUTES];
+    let mut work = [0u32; WORK];
     print_with(
         entry,
         text,
@@ -49,38 +59,33 @@ pub fn print_text(entry: Entry, text: &[u8], output: &mut [u8]) -> Answer
     )
 }
 
-// The same, in tables and a work area of these lengths.
+// The same, in tables and a work area that are lent.
 fn print_with(
     entry: Entry,
     text: &[u8],
-    items: &mut [u32],
-    statements: &mut [u32],
-    operands: &mut [u32],
-    attributes: &mut [u32],
-    work: &mut [u32],
+    items: &mut [u32; ITEMS],
+    statements: &mut [u32; STATEMENTS],
+    operands: &mut [u32; OPERANDS],
+    attributes: &mut [u32; ATTRIBUTES],
+    work: &mut [u32; WORK],
     output: &mut [u8],
-) -> Answer
-    requires items_len { length items.old ≡ 294912 }
-    requires statements_len { length statements.old ≡ 218460 }
-    requires operands_len { length operands.old ≡ 458752 }
-    requires attributes_len { length attributes.old ≡ 240306 }
-    requires work_len { length work.old ≡ 131073 }
-    ensures { Tells entry text.now output.old result output.new }
+) -> Result<u64, Refusal>
+    ensures { Tells entry text.now output.old (print_answer result) output.new }
 {
-    let answer = read(entry, text, items, statements, operands, attributes);
-    match answer {
-        Answer::Read {
-            items: i,
-            statements: s,
-            operands: o,
-            attributes: a,
-        } => peldarox::print(
-            text, items, statements, operands, attributes, i as u64, s as u64, o as u64, a as u64,
-            work, output,
-        ),
-        Answer::Printed(n) => Answer::Printed(n),
-        Answer::Refused { number, place } => Answer::Refused { number, place },
-    }
+    let rows = read(entry, text, items, statements, operands, attributes)?;
+    peldarox::print(
+        text,
+        items,
+        statements,
+        operands,
+        attributes,
+        rows.items as u64,
+        rows.statements as u64,
+        rows.operands as u64,
+        rows.attributes as u64,
+        work,
+        output,
+    )
 }
 
 // The read of an entry point.
@@ -91,8 +96,8 @@ pub fn read(
     statements: &mut [u32],
     operands: &mut [u32],
     attributes: &mut [u32],
-) -> Answer
-    ensures { Reads entry text.now items.old statements.old operands.old attributes.old result items.new statements.new operands.new attributes.new }
+) -> Result<Counts, Refusal>
+    ensures { Reads entry text.now items.old statements.old operands.old attributes.old (read_answer result) items.new statements.new operands.new attributes.new }
 {
     match entry {
         Entry::Replacements => {

@@ -10,9 +10,9 @@ use lib.Dec.{ltb}
 use lib.ListN.{length, take, drop}
 use lib.Seq.{take_at, take_all}
 use Rattle.rules.specs.declared.Entry.{Entry}
-use Rattle.rules.specs.declared.Answer.{Answer}
-use Rattle.rules.specs.declared.StoreAnswer.{StoreAnswer}
-use Rattle.rules.specs.declared.StoreAnswer.TheVariants as store
+use Rattle.rules.specs.Answer.{Answer}
+use Rattle.rules.specs.StoreAnswer.{StoreAnswer}
+use Rattle.rules.specs.StoreAnswer as store
 use Rattle.rules.specs.World.{Tables}
 use Rattle.rules.specs.Rows.{item_length, statement_length, operand_length, attribute_length}
 use Rattle.rules.specs.WellFormed.{Counts, counts, well_formed}

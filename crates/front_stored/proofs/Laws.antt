@@ -8,12 +8,12 @@ use native.Mathlib.Omega.{arith}
 use lib.ListN.{length, take, drop, replicate, length-append, length-replicate}
 use lib.Seq.{take_at}
 use Rattle.rules.specs.declared.Entry.{Entry}
-use Rattle.rules.specs.declared.Answer.{Answer}
-use Rattle.rules.specs.declared.Answer.TheVariants as answer
-use Rattle.rules.specs.declared.StoreAnswer.{StoreAnswer}
-use Rattle.rules.specs.declared.StoreAnswer.TheVariants as store
-use Rattle.rules.specs.declared.LoadAnswer.{LoadAnswer}
-use Rattle.rules.specs.declared.LoadAnswer.TheVariants as load
+use Rattle.rules.specs.Answer.{Answer}
+use Rattle.rules.specs.Answer as answer
+use Rattle.rules.specs.StoreAnswer.{StoreAnswer}
+use Rattle.rules.specs.StoreAnswer as store
+use Rattle.rules.specs.LoadAnswer.{LoadAnswer}
+use Rattle.rules.specs.LoadAnswer as load
 use Rattle.rules.specs.World.{Tables}
 use Rattle.rules.specs.Rows.{item_length, statement_length, operand_length, attribute_length}
 use Rattle.rules.specs.WellFormed.{counts, well_formed}
@@ -97,11 +97,6 @@ module _ (e : Entry) (text I S O A output : List ℕ) (roomy : Roomy I S O A) wh
         let same_place : p ≡ q = cc in
         record { answers = rw (h, same_number, same_place) refl; bytes = rw h refl }
 
-    no_print : (o : Outcome) (n : ℕ) → answer.Printed n ≡ answer_of o → ⊥
-    unfolding answer_of
-    no_print (accepted t) n told = let z : ◌≡◌ {A = ℕ} 0 1 = cc in omega arith
-    no_print (refusal m q) n told = let z : ◌≡◌ {A = ℕ} 0 1 = cc in omega arith
-
     -- by what a read answered
     module _ (x : Answer) (h : Reads e text I S O A x I' S' O' A') where
       pub tells_file : (i s o a : ℕ) → x ≡ answer.Read i s o a → (r : StoreAnswer) (output' : List ℕ) → Stores text I' S' O' A' (counts i s o a) output r output' → TellsFile e text output r output'
@@ -109,10 +104,6 @@ module _ (e : Entry) (text I S O A output : List ℕ) (roomy : Roomy I S O A) wh
 
       pub tells-refusal : (n p : ℕ) → x ≡ answer.Refused n p → TellsFile e text output (store.Refused n p) output
       tells-refusal n p q = by_refusal (reading e text room) n p refl (sym q ∙ h.answers ∙ ap (λ l. answer_of (reading e text l)) same_room)
-
-      -- a read never answers that it printed
-      pub tells-nothing : (n : ℕ) → x ≡ answer.Printed n → TellsFile e text output (store.Stored n) output
-      tells-nothing n q = absurd (no_print (reading e text (lent I S O A)) n (sym q ∙ h.answers))
 
 -- Loading and printing
 

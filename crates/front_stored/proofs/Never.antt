@@ -8,8 +8,8 @@ use native.Mathlib.Omega.{arith}
 use borrow.Author.Tests.{le-ltb}
 use lib.ListN.{length}
 use Rattle.rules.specs.declared.Entry.{Entry}
-use Rattle.rules.specs.declared.StoreAnswer.{StoreAnswer}
-use Rattle.rules.specs.declared.StoreAnswer.TheVariants as store
+use Rattle.rules.specs.StoreAnswer.{StoreAnswer}
+use Rattle.rules.specs.StoreAnswer as store
 use Rattle.rules.specs.World.{Tables}
 use Rattle.rules.specs.Answers.{Lent, Outcome, accepted, refusal, reading}
 use Rattle.rules.specs.Stored.{fitting_file, storing_answer}

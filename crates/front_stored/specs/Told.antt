@@ -3,10 +3,10 @@
 -- Assumes nothing.
 use Rattle.std.specs.Prelude.{ℕ, ◌≡◌, List, length}
 use Rattle.rules.specs.declared.Entry.{Entry}
-use Rattle.rules.specs.declared.Answer.{Answer}
-use Rattle.rules.specs.declared.Answer.TheVariants as answer
-use Rattle.rules.specs.declared.StoreAnswer.{StoreAnswer}
-use Rattle.rules.specs.declared.StoreAnswer.TheVariants as store
+use Rattle.rules.specs.Answer.{Answer}
+use Rattle.rules.specs.Answer as answer
+use Rattle.rules.specs.StoreAnswer.{StoreAnswer}
+use Rattle.rules.specs.StoreAnswer as store
 use Rattle.rules.specs.World.{Tables}
 use Rattle.rules.specs.Answers.{Outcome, accepted, refusal, reading}
 use Rattle.rules.specs.Prints.{Print, printing, print_answer, output_after}

@@ -13,10 +13,9 @@ use native.Mathlib.Omega.{arith}
 use borrow.Author.Tests.{eqb-true, eqb-false, ltb-false}
 use lib.Dec.{eqb, ltb}
 use lib.ListN.{length}
-use Rattle.rules.specs.declared.Checked.{Checked}
-use Rattle.rules.specs.declared.Checked.TheVariants.{WellFormed, IllFormed}
+use Rattle.std.specs.Prelude.{Ok, Err}
 use Rattle.rules.specs.declared.Entry.{Entry}
-use Rattle.rules.specs.Utf8.{checked}
+use Rattle.rules.specs.Utf8.{checked, Checked}
 use Rattle.rules.specs.Rows.{item_length, statement_length, operand_length, attribute_length}
 use Rattle.rules.specs.Syntax.{Item}
 use Rattle.rules.specs.World.{Tables}
@@ -57,13 +56,13 @@ module _ (e : Entry) (text : List ℕ) where
 -- an accepted text is short and well formed
 record Proper (text : List ℕ) : Type 0 where
   short : length text ≤ 65536
-  well_formed : checked text ≡ WellFormed
+  well_formed : checked text ≡ Ok tt
 
 module _ (e : Entry) (text : List ℕ) (l : Lent) where
-  checked_well : (c : Checked) (t : Tables) → read_checked c e text l ≡ accepted t → c ≡ WellFormed
+  checked_well : (c : Checked) (t : Tables) → read_checked c e text l ≡ accepted t → c ≡ Ok tt
   unfolding read_checked
-  checked_well WellFormed t h = refl
-  checked_well (IllFormed p) t h = absurd (let z : ◌≡◌ {A = ℕ} 0 1 = cc in omega arith)
+  checked_well (Ok u) t h = refl
+  checked_well (Err p) t h = absurd (let z : ◌≡◌ {A = ℕ} 0 1 = cc in omega arith)
 
   proper : (t : Tables) → reading e text l ≡ accepted t → Proper text
   unfolding reading

@@ -7,8 +7,8 @@ use mathlib.Core.Path.{◌≡◌, refl, sym, ap, ◌∙◌, subst}
 use mathlib.Core.Logic.{◌↔◌, ◌⊎◌, inl, inr, ⊎_elim}
 use mathlib.Core.List.{List}
 use Rattle.rules.specs.declared.Entry.{Entry}
-use Rattle.rules.specs.declared.Answer.{Answer}
-use Rattle.rules.specs.declared.Answer.TheVariants as answer
+use Rattle.rules.specs.Answer.{Answer}
+use Rattle.rules.specs.Answer as answer
 use Rattle.rules.specs.Syntax.{Item}
 use Rattle.rules.specs.View.{items_of}
 use Rattle.rules.specs.World.{Tables}

@@ -6,9 +6,9 @@ use mathlib.Core.Bool.{true, false, cond}
 use mathlib.Core.List.{List}
 use native.Mathlib.Omega.{arith}
 use lib.Dec.{ltb}
+use Rattle.std.specs.Prelude.{Some, None}
 use lib.ListN.{get_or}
 use borrow.Author.Tests.{ltb-true, ltb-false}
-use Rattle.rules.specs.declared.Row.TheVariants.{At, Missing}
 use Rattle.rules.specs.declared.Span.{Span}
 use Rattle.rules.specs.Bytes.{part, same}
 use Rattle.rules.specs.Rows.{statement_at, name_at}
@@ -29,21 +29,21 @@ differ a b j h = ne_same a b (λ e. h (ap (λ (l : List ℕ). get_or l j 0) e))
 
 -- a search that stands at row i looks at the row before it
 module _ (text words name : List ℕ) (first i : ℕ) (h : first < i) where
-  looked : find_row text words name first (i - first) ≡ cond (same (name_at text words (i - 1)) name) (At (i - 1)) (find_row text words name first (i - 1 - first))
+  looked : find_row text words name first (i - first) ≡ cond (same (name_at text words (i - 1)) name) (Some (i - 1)) (find_row text words name first (i - 1 - first))
   unfolding find_row
   looked =
       let more : i - first ≡ suc (i - 1 - first) = omega arith in
       let here : first + (i - 1 - first) ≡ i - 1 = omega arith in
       rw (more, here)
 
-  pub found_here : same (name_at text words (i - 1)) name ≡ true → find_row text words name first (i - first) ≡ At (i - 1)
+  pub found_here : same (name_at text words (i - 1)) name ≡ true → find_row text words name first (i - first) ≡ Some (i - 1)
   found_here e = rw (looked, e)
 
   pub not_here : same (name_at text words (i - 1)) name ≡ false → find_row text words name first (i - first) ≡ find_row text words name first (i - 1 - first)
   not_here e = rw (looked, e)
 
 -- a search that has come to the first row
-pub none_left : (text words name : List ℕ) (first i : ℕ) → i ≤ first → find_row text words name first (i - first) ≡ Missing
+pub none_left : (text words name : List ℕ) (first i : ℕ) → i ≤ first → find_row text words name first (i - first) ≡ None
 unfolding find_row
 none_left text words name first i h =
     let none : i - first ≡ 0 = omega arith in
@@ -101,7 +101,7 @@ module _ {text words index name : List ℕ} {first past : ℕ} (d : Linked (slot
     pub link_falls : get_or index (1025 + (i - 1)) 0 ≤ i - 1
     link_falls = link.within
 
-    pub walk_found : same (name_at text words (i - 1)) name ≡ true → At (i - 1) ≡ find_row text words name first (past - first)
+    pub walk_found : same (name_at text words (i - 1)) name ≡ true → Some (i - 1) ≡ find_row text words name first (past - first)
     walk_found e = sym (w.rest ∙ found_here text words name first i h e)
 
     pub walk_on : {next : ℕ} → next ≡ get_or index (1025 + (i - 1)) 0 → same (name_at text words (i - 1)) name ≡ false → Walk text words name first past next
@@ -117,12 +117,12 @@ module _ {text words index name : List ℕ} {first past : ℕ} (d : Linked (slot
         })
 
 -- past the last of them
-pub walk_ends : {text words name : List ℕ} {first past i : ℕ} → Walk text words name first past i → i ≤ first → Missing ≡ find_row text words name first (past - first)
+pub walk_ends : {text words name : List ℕ} {first past i : ℕ} → Walk text words name first past i → i ≤ first → None ≡ find_row text words name first (past - first)
 walk_ends w h = sym (w.rest ∙ none_left _ _ _ _ _ h)
 
 -- a search along the newest rows, and then before them
 module _ (text words name : List ℕ) (first d : ℕ) where
-  found_near : (k r : ℕ) → find_row text words name (first + d) k ≡ At r → find_row text words name first (d + k) ≡ At r
+  found_near : (k r : ℕ) → find_row text words name (first + d) k ≡ Some r → find_row text words name first (d + k) ≡ Some r
   unfolding find_row
   found_near zero r e = absurd (let z : ◌≡◌ {A = ℕ} 0 1 = cc in let y : ⊥ = omega arith in y)
   found_near (suc k) r e =
@@ -132,7 +132,7 @@ module _ (text words name : List ℕ) (first d : ℕ) where
       (λ t. rw (more, t) (rw (here, t) at e))
       (λ t. rw (more, t) (found_near k r (rw (here, t) at e)))
 
-  missed_near : (k : ℕ) → find_row text words name (first + d) k ≡ Missing → find_row text words name first (d + k) ≡ find_row text words name first d
+  missed_near : (k : ℕ) → find_row text words name (first + d) k ≡ None → find_row text words name first (d + k) ≡ find_row text words name first d
   unfolding find_row
   missed_near zero e = let more : d + 0 ≡ d = omega arith in rw more
   missed_near (suc k) e =
@@ -144,13 +144,13 @@ module _ (text words name : List ℕ) (first d : ℕ) where
 
 -- rows from one on come first, of those from `first` up to `past`
 module _ (text words name : List ℕ) {first from past : ℕ} (low : first ≤ from) (high : from ≤ past) where
-  pub found_first : (r : ℕ) → find_row text words name from (past - from) ≡ At r → find_row text words name first (past - first) ≡ At r
+  pub found_first : (r : ℕ) → find_row text words name from (past - from) ≡ Some r → find_row text words name first (past - first) ≡ Some r
   found_first r e =
       let a : first + (from - first) ≡ from = omega arith in
       let b : from - first + (past - from) ≡ past - first = omega arith in
       rw b at (found_near text words name first (from - first) (past - from) r (rw a e))
 
-  pub missed_first : find_row text words name from (past - from) ≡ Missing → find_row text words name first (past - first) ≡ find_row text words name first (from - first)
+  pub missed_first : find_row text words name from (past - from) ≡ None → find_row text words name first (past - first) ≡ find_row text words name first (from - first)
   missed_first e =
       let a : first + (from - first) ≡ from = omega arith in
       let b : from - first + (past - from) ≡ past - first = omega arith in

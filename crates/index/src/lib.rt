@@ -8,7 +8,6 @@ ghost use Rattle.rules.specs.Reading.{find_row};
 ghost use Rattle.index.specs.Slots.{slot_of, slots_in};
 ghost use Rattle.index.specs.Linked.{room as room_of, held, Linked, Holds};
 
-use rules::Row;
 use tables::letters;
 use tables::rows::name_at;
 
@@ -19,17 +18,16 @@ pub const HEADS: usize = 1024;
 const NEAR: u32 = 8;
 
 // The slot of a name: the letters behind its '%' are the digits of a number. No letters have none.
+#[tactic(auto, unfolding(crate::specs::Slots::slot_of))]
 fn slot_of(name: &[u8]) -> usize
     ensures { (result ≡ slot_of name.now) × (result ≤ 1024) }
 {
-    if name.len() < 1 {
+    let Some((_, letters)) = name.split_first() else {
         return HEADS;
-    }
+    };
     let mut h: usize = 0;
-    let mut i = 1;
-    while i < name.len() {
-        h = (h * 37 + name[i] as usize) % HEADS;
-        i += 1;
+    for letter in letters {
+        h = (h * 37 + *letter as usize) % HEADS;
     }
     h
 }
@@ -38,10 +36,7 @@ fn slot_of(name: &[u8]) -> usize
 fn entry(index: &[u16], at: usize) -> u32
     ensures { result ≡ get_or index.now at 0 }
 {
-    if at < index.len() {
-        return index[at] as u32;
-    }
-    0
+    index.get(at).copied().unwrap_or(0) as u32
 }
 
 // The link of a row.
@@ -55,22 +50,15 @@ fn link(index: &[u16], row: u32) -> u32
 fn near(index: &[u16], first: u32) -> u32
     ensures { result ≡ max first (held index.now) }
 {
-    let n = entry(index, HEADS);
-    if n < first { first } else { n }
+    first.max(entry(index, HEADS))
 }
 
 // How many rows an index has links for.
+#[tactic(auto, unfolding(crate::specs::Linked::room))]
 fn room(index: &[u16]) -> u32
     ensures { result ≡ room_of index.now }
 {
-    if index.len() <= HEADS {
-        return 0;
-    }
-    let links = index.len() - HEADS - 1;
-    if 65535 < links {
-        return 65535;
-    }
-    links as u32
+    index.len().saturating_sub(HEADS + 1).min(65535) as u32
 }
 
 // The row behind those that were entered enters under its slot; a row that has none does not.
@@ -90,11 +78,9 @@ fn enter_rows(text: &[u8], statements: &[u32], index: &mut [u16], from: u32, pas
     requires { (from ≤ past) × (past ≤ room_of index.old) × (0 < past) }
     ensures { (first : ℕ) → first ≤ past → Linked (slots_in text.now statements.now) index.old first from → Holds text.now statements.now index.new first past }
 {
-    let mut i = from;
-    while i < past {
+    for i in from..past {
         let span = name_at(statements, i);
         enter(index, i, slot_of(letters(text, span.first, span.past)));
-        i += 1;
     }
     index[HEADS] = past as u16;
 }
@@ -118,7 +104,7 @@ pub fn hold(text: &[u8], statements: &[u32], index: &mut [u16], first: u32, past
 
 // The last of the statement rows from `first` up to `past` that has a name, row by row: on to the next candidate at the first letter that differs. The letters are
 // compared from the last one back, since the names of an item mostly differ there.
-fn along(text: &[u8], statements: &[u32], name: &[u8], first: u32, past: u32) -> Row
+fn along(text: &[u8], statements: &[u32], name: &[u8], first: u32, past: u32) -> Option<u32>
     ensures { result ≡ find_row text.now statements.now name.now first (past - first) }
 {
     let mut i = past;
@@ -136,9 +122,9 @@ fn along(text: &[u8], statements: &[u32], name: &[u8], first: u32, past: u32) ->
                 continue 'candidates;
             }
         }
-        return Row::At(i);
+        return Some(i);
     }
-    Row::Missing
+    None
 }
 
 // The last row from `first` on that has a name, by the links from a slot's head down: on to the next row at the first letter that differs.
@@ -149,7 +135,7 @@ fn by_links(
     name: &[u8],
     first: u32,
     slot: usize,
-) -> Row
+) -> Option<u32>
     ensures { (past : ℕ) → slot < 1024 → slot ≡ slot_of name.now → Linked (slots_in text.now statements.now) index.now first past → result ≡ find_row text.now statements.now name.now first (past - first) }
 {
     let mut i = entry(index, slot);
@@ -157,7 +143,7 @@ fn by_links(
         let row = i - 1;
         let next = link(index, row);
         if row < next {
-            return Row::Missing;
+            return None;
         }
         i = next;
         let span = name_at(statements, row);
@@ -172,9 +158,9 @@ fn by_links(
                 continue 'candidates;
             }
         }
-        return Row::At(row);
+        return Some(row);
     }
-    Row::Missing
+    None
 }
 
 // The last of the rows from `first` up to `past` that has a name, where the index holds them.
@@ -185,11 +171,11 @@ fn among_held(
     name: &[u8],
     first: u32,
     past: u32,
-) -> Row
+) -> Option<u32>
     ensures { (first < past → Linked (slots_in text.now statements.now) index.now first past) → result ≡ find_row text.now statements.now name.now first (past - first) }
 {
     if past <= first {
-        return Row::Missing;
+        return None;
     }
     let slot = slot_of(name);
     if HEADS <= slot {
@@ -206,12 +192,12 @@ pub fn find(
     name: &[u8],
     first: u32,
     past: u32,
-) -> Row
+) -> Option<u32>
     ensures { Holds text.now statements.now index.now first past → result ≡ find_row text.now statements.now name.now first (past - first) }
 {
     let from = near(index, first);
     match along(text, statements, name, from, past) {
-        Row::At(r) => Row::At(r),
-        Row::Missing => among_held(text, statements, index, name, first, from),
+        Some(r) => Some(r),
+        None => among_held(text, statements, index, name, first, from),
     }
 }

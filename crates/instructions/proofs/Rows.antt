@@ -1,65 +1,19 @@
--- What the code's table says of the instructions.
+-- What the code's tables say of the instructions.
 -- Assumes nothing.
-use mathlib.Core.Path.{◌≡◌, refl, ap, subst⁻¹}
-use mathlib.Core.Bool.{Bool, true, ◌&&◌}
+use mathlib.Core.Path.{◌≡◌, refl, ap}
+use mathlib.Core.Bool.{Bool, true}
 use mathlib.Core.List.{List, [], ◌∷◌}
-use Prim.Native.Nat.{ℕ, ◌+◌, ◌≤◌, ◌<◌}
-use lib.Dec.{eqb, leb}
+use Prim.Native.Nat.{ℕ, ◌≤◌, ◌<◌}
+use lib.Dec.{eqb}
 use lib.ListN.{length, get_or, get_or-eq_default}
-use borrow.Author.Tests.{eqb-true, leb-true}
-use Rattle.rules.specs.Bytes.{part, same}
+use borrow.Author.Tests.{eqb-true}
+use denote.Bor.{Bor}
+use Rattle.rules.specs.Bytes.{same}
 use Rattle.rules.specs.Instructions.{Instruction, ◌takes◌, instructions, arity_of, instruction_name}
-use Rattle.laws.proofs.Tests.{and_left, and_right}
 use Rattle.laws.proofs.Every.{every, every_at}
 use Rattle.laws.proofs.Places.{same_eq}
-use Rattle.instructions.specs.Table.{letters, places}
 
--- name k by the places where it starts and ends
-abbrev pub name_at : List ℕ → ℕ → List ℕ
-name_at places k = part letters (get_or places k 0) (get_or places (k + 1) 0)
-
--- whether name k is an instruction's and ends where the next starts, within the letters: one test over the whole table
-unfoldable right : ℕ → Instruction → Bool
-right k i =
-    leb (get_or places k 0 + length i.name) 381
-    && (eqb (get_or places k 0 + length i.name) (get_or places (k + 1) 0) && same (name_at places k) i.name)
-
-all_right : every right 0 instructions ≡ true
-unfolding right letters places same
-all_right = refl
-
-pub long : length letters ≡ 381
-unfolding letters
-long = refl
-
-pub many : length places ≡ 60
-unfolding places
-many = refl
-
--- what the test says of name k
-pub record Name (places : List ℕ) (k : ℕ) : Type 0 where
-  pub inside : get_or places k 0 + length (instruction_name k) ≤ 381
-  pub ends : get_or places k 0 + length (instruction_name k) ≡ get_or places (k + 1) 0
-  pub name : name_at places k ≡ instruction_name k
-
-named : (k : ℕ) → k < 59 → Name places k
-unfolding right instruction_name
-named k h =
-    let n = instruction_name k in
-    let at = get_or places k 0 in
-    let all : (leb (at + length n) 381 && (eqb (at + length n) (get_or places (k + 1) 0) && same (name_at places k) n)) ≡ true = every_at right ("" takes 0) instructions all_right k h in
-    let two = and_right (leb (at + length n) 381) _ all in
-    record {
-      inside = leb-true (at + length n) 381 (and_left (leb (at + length n) 381) _ all);
-      ends = eqb-true (at + length n) (get_or places (k + 1) 0) (and_left (eqb (at + length n) (get_or places (k + 1) 0)) _ two);
-      name = same_eq (name_at places k) n (and_right (eqb (at + length n) (get_or places (k + 1) 0)) _ two);
-    }
-
--- the same of a list that is said to be the places
-pub said_named : (l : List ℕ) (k : ℕ) → l ≡ places → k < 59 → Name l k
-said_named l k e h = subst⁻¹ (λ (t : List ℕ). Name t k) e (named k h)
-
--- the arities, by one computed test too
+-- the arities, by one computed test
 unfoldable pub arities : List ℕ
 arities = arity_list instructions
   where
@@ -73,6 +27,14 @@ right_arity k a = eqb a (arity_of k)
 pub arity_at : (k : ℕ) → k < 59 → get_or arities k 0 ≡ arity_of k
 unfolding right_arity arity_of arities
 arity_at k h = eqb-true (get_or arities k 0) (arity_of k) (every_at right_arity 0 arities refl k h)
+
+-- the names, by another
+unfoldable pub right_name : ℕ → Bor (List ℕ) → Bool
+right_name k n = same n.now (instruction_name k)
+
+pub name_at : (l : List (Bor (List ℕ))) (d : Bor (List ℕ)) → every right_name 0 l ≡ true → (k : ℕ) → k < length l → (get_or l k d).now ≡ instruction_name k
+unfolding right_name
+name_at l d t k h = same_eq (get_or l k d).now (instruction_name k) (every_at right_name d l t k h)
 
 -- past the table
 module _ (k : ℕ) (h : 59 ≤ k) where

@@ -1,3 +1,3 @@
--- How the code reads its table, and which words each part of a search decides.
+-- Which words each part of a search decides, and the number of what it finds.
 pub mod Candidates
-pub mod Table
+pub mod Number

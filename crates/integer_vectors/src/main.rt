@@ -4,106 +4,70 @@
 #![tactic(auto)]
 
 use rules::Words;
-use wide::{Fitted, Parsed, Wide};
+use std::fmt;
+use vector_lines::{Lines, Text, front, say};
+use wide::Wide;
 
+// Writes about each line of a text.
 fn main(rt: HostRuntime) {
     let mut text = [0u8; 65536];
     let n = input::read_full(&mut rt.stdin(), &mut text);
-    tell_lines(&rt, &text[..n]);
-}
-
-// Writes about each line of a text.
-fn tell_lines(rt: &impl Print, text: &[u8]) {
-    let mut before = Parsed::Malformed;
-    let mut at = 0;
-    while at < text.len() {
-        let past = at + scan::line_len(&text[at..]);
-        before = tell_line(rt, &text[at..past], before);
-        at = past;
-        if at < text.len() {
-            at += 1;
-        }
+    let mut before = None;
+    for line in Lines::of(&text[..n]) {
+        before = say_line(&rt, line, before);
     }
 }
 
 // Writes about a line, and answers the integer that the next is compared with.
-fn tell_line(rt: &impl Print, line: &[u8], before: Parsed) -> Parsed {
-    if is_type(line) {
-        tell_field(rt, wide::type_width(line));
-        put(rt, b"\n");
+fn say_line(rt: &impl Print, line: &[u8], before: Option<Wide>) -> Option<Wide> {
+    if line.starts_with(b"i") {
+        say(rt, Field(wide::type_width(line)));
         return before;
     }
-    let read = Wide::from_digits(line);
-    let Parsed::Value(w) = read else {
-        put(rt, b"refused\n");
+    let Some(w) = Wide::from_digits(line) else {
+        say(rt, "refused");
         return before;
     };
-    tell_integer(rt, w, before);
-    read
-}
-
-// Whether a line is to be read as a type.
-fn is_type(line: &[u8]) -> bool {
-    line.len() != 0 && line[0] == b'i'
+    say_integer(rt, w, before);
+    Some(w)
 }
 
 // Writes about an integer, where before is the one before it.
-fn tell_integer(rt: &impl Print, w: Wide, before: Parsed) {
-    put_decimal(rt, w);
-    put(rt, b" ");
-    tell_field(rt, w.fits_32());
-    put(rt, b" ");
-    tell_field(rt, w.fits_8());
-    tell_words(rt, w.words());
-    tell_order(rt, w, before);
-    put(rt, b"\n");
+fn say_integer(rt: &impl Print, w: Wide, before: Option<Wide>) {
+    let mut digits = [0u8; 40];
+    let n = w.write_decimal(&mut digits);
+    let Words { a, b, c, d } = Words::from(w);
+    let order = order(w, before);
+    say(
+        rt,
+        format_args!(
+            "{} {} {} {a} {b} {c} {d} {order}",
+            Text(front(&digits, n)),
+            Field(w.fits(u32::MAX)),
+            Field(w.fits(u8::MAX as u32)),
+        ),
+    );
 }
 
-// Writes what a field holds.
-fn tell_field(rt: &impl Print, f: Fitted) {
-    match f {
-        Fitted::Fits(n) => put_decimal(rt, Wide::small(n as u64)),
-        Fitted::Outside => put(rt, b"refused"),
+// What a field holds, as it is written.
+#[derive(Clone, Copy)]
+struct Field(Option<u32>);
+
+impl fmt::Display for Field {
+    fn fmt<W: fmt::Write>(&self, f: &mut fmt::Formatter<W>) -> fmt::Result {
+        match self.0 {
+            Some(n) => write!(f, "{n}"),
+            None => write!(f, "refused"),
+        }
     }
 }
 
-// Writes four words.
-fn tell_words(rt: &impl Print, w: Words) {
-    put(rt, b" ");
-    put_decimal(rt, Wide::small(w.a as u64));
-    put(rt, b" ");
-    put_decimal(rt, Wide::small(w.b as u64));
-    put(rt, b" ");
-    put_decimal(rt, Wide::small(w.c as u64));
-    put(rt, b" ");
-    put_decimal(rt, Wide::small(w.d as u64));
-}
-
-// Writes how an integer compares with the one before it.
-fn tell_order(rt: &impl Print, w: Wide, before: Parsed) {
-    let Parsed::Value(v) = before else {
-        put(rt, b" first");
-        return;
-    };
-    if w.less(v) {
-        put(rt, b" less");
-        return;
+// How an integer compares with the one before it.
+fn order(w: Wide, before: Option<Wide>) -> &'static str {
+    match before {
+        None => "first",
+        Some(v) if w.less(v) => "less",
+        Some(v) if w == v => "same",
+        Some(_) => "more",
     }
-    if w.same(v) {
-        put(rt, b" same");
-        return;
-    }
-    put(rt, b" more");
-}
-
-// Writes a decimal.
-fn put_decimal(rt: &impl Print, w: Wide) {
-    let mut text = [0u8; 40];
-    let n = w.write_decimal(&mut text);
-    put(rt, &text[..n]);
-}
-
-// Writes bytes.
-fn put(rt: &impl Print, bytes: &[u8]) {
-    let _ = rt.write_all(bytes);
 }

@@ -1,6 +1,7 @@
 -- Facts that several crates' proofs share. They assume nothing.
 pub mod Tests
 pub mod Runs
+pub mod Library
 pub mod Within
 pub mod First
 pub mod Spaces

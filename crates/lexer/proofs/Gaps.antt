@@ -2,19 +2,24 @@
 -- Assumes nothing.
 use mathlib.Core.Path.{◌≡◌, refl, sym, ap, ◌∙◌}
 use mathlib.Core.Bool.{Bool, true, false, ◌&&◌, ◌||◌, false≢true}
-use mathlib.Core.List.{List, ◌∷◌}
-use Prim.Native.Nat.{ℕ, suc, ◌+◌, ◌≤◌, ◌<◌}
+use mathlib.Core.List.{List, [], ◌∷◌}
+use Prim.Native.Nat.{ℕ, suc, ◌+◌, ◌≤◌, ◌<◌, suc-le-suc}
+use native.Mathlib.Nat.{zero-add, suc-add}
+use native.Mathlib.Numerals.{one-add}
 use native.Mathlib.Omega.{arith}
 use borrow.Author.Tests.{leb-true, eqb-true}
 use lib.Dec.{eqb, leb}
 use lib.ListN.{length, get_or, drop}
 use lib.Seq.{drop-cons}
-use Rattle.rules.specs.Bytes.{byte, inside}
-use Rattle.rules.specs.Space.{white, skip_len, gap}
+use Rattle.rules.specs.Bytes.{byte, inside, count}
+use Rattle.rules.specs.Space.{white, in_any, skip_len, gap}
+use Rattle.std.specs.List.{list_any}
+use Rattle.rules.specs.declared.Range.{Range}
+use Rattle.laws.proofs.Cases.{by_cases}
 use Rattle.laws.proofs.Tests.{and_right, cond-true, cond-false}
 use Rattle.laws.proofs.Runs.{rest, far_more, far-stop}
 use Rattle.laws.proofs.Spaces.{white-ascii, skip_len-ascii, skip_len-le}
-use Rattle.lexer.specs.Blank.{blank}
+use Rattle.lexer.specs.Blank.{blank, Blanks}
 
 -- a blank is ASCII, and an ASCII byte is white where it is a blank
 low_if : (b : ℕ) (t u : Bool) → (leb 9 b && leb b 13) ≡ t → eqb b 32 ≡ u → (t || u) ≡ true → b ≤ 127
@@ -48,3 +53,24 @@ module _ (s : List ℕ) (i : ℕ) (h : i < length s) where
       ∙ cond-false _ _ _ (white-blank (get_or s i 0) l ∙ e)
       ∙ cond-false _ _ _ f in
       far-stop skip_len skip_len-le s i 0 (sym (ap skip_len (rest s i) ∙ k)) refl
+
+none_blank : blank 0 ≡ false
+unfolding blank inside
+none_blank = refl
+
+-- the blanks at the front, as many as they are
+blanks_by : (s : List ℕ) → Blanks s (count blank s)
+blanks_by [] = record { within = omega arith; onward = refl; ends = none_blank }
+blanks_by (b ∷ s) =
+    let e = blanks_by s in
+    by_cases (blank b)
+    (λ t. rw t (record { within = suc-le-suc e.within; onward = blank_more (b ∷ s) 0 (omega arith) t ∙ one-add _ ∙ ap suc e.onward ∙ sym (suc-add _ _); ends = e.ends }))
+    (λ t. rw t (record { within = omega arith; onward = sym (zero-add _); ends = t }))
+
+pub blanks : (s : List ℕ) {n : ℕ} → n ≡ count blank s → Blanks s n
+blanks s e = rw e (blanks_by s)
+
+-- the table, asked as the code asks it
+pub in-table : (rs : List Range) (c : ℕ) → list_any (λ (r : Range). inside r.lo r.hi c) rs ≡ in_any rs c
+in-table [] c = refl
+in-table (r ∷ rs) c = ap (λ (t : Bool). inside r.lo r.hi c || t) (in-table rs c)

@@ -1,5 +1,5 @@
 // White space and comments. Which characters are white space stands in a table of ranges; of an ASCII byte no code point has to be put together.
-ghost use Rattle.std.specs.Prelude.{◌≡◌};
+ghost use Rattle.std.specs.Prelude.{◌≡◌, ◌<◌, unwrap_or, IfSome};
 ghost use Rattle.rules.specs.Bytes.{inside};
 ghost use Rattle.rules.specs.Space.{white, space_len, skip_len, gap};
 ghost use Rattle.lexer.specs.Blank.{blank, Blanks};
@@ -50,26 +50,18 @@ const SPACES: [Range; 10] = [
     },
 ];
 
-// Whether c is from lo up to and with hi.
-fn within(lo: u32, hi: u32, c: u32) -> bool
-    ensures { result ≡ inside lo hi c }
+// Whether a code point is in a range.
+fn within(range: &Range, c: u32) -> bool
+    ensures { result ≡ inside range.now.lo range.now.hi c }
 {
-    lo <= c && c <= hi
+    (range.lo..=range.hi).contains(&c)
 }
 
 // Whether a code point is white space.
 pub fn is_white(c: u32) -> bool
     ensures { result ≡ white c }
 {
-    let mut k: usize = 0;
-    while k < 10 {
-        let r = SPACES[k];
-        if within(r.lo, r.hi, c) {
-            return true;
-        }
-        k += 1;
-    }
-    false
+    SPACES.iter().any(|range| within(range, c))
 }
 
 // Whether b is ASCII white space.
@@ -82,49 +74,42 @@ pub fn is_blank(b: u8) -> bool
     is_white(b as u32)
 }
 
-// The bytes of a white-space character at the front of s; 0 where there is none.
-fn space_len(s: &[u8]) -> usize
-    ensures { result ≡ space_len s.now }
+// The bytes of a white-space character at the front of s, where there is one.
+fn space_len(s: &[u8]) -> Option<usize>
+    ensures length { unwrap_or result 0 ≡ space_len s.now }
+    ensures some { IfSome result (λ n. 0 < n) }
 {
-    let n = utf8::seq_len(s);
-    if n < 1 {
-        return 0;
-    }
-    if is_white(utf8::code_point(n, s)) {
-        return n;
-    }
-    0
+    let n = utf8::seq_len(s)?;
+    let white = is_white(utf8::code_point(n, s));
+    white.then_some(n)
 }
 
-// The bytes of a white-space character or of a comment at the front of s; 0 where there is neither.
-fn skip_len(s: &[u8]) -> usize
-    ensures { result ≡ skip_len s.now }
+// The bytes of a white-space character or of a comment at the front of s, where there is either.
+fn skip_len(s: &[u8]) -> Option<usize>
+    ensures length { unwrap_or result 0 ≡ skip_len s.now }
+    ensures some { IfSome result (λ n. 0 < n) }
 {
-    if s.len() < 1 {
-        return 0;
+    if s.is_empty() {
+        return None;
     }
     let b = s[0];
     if 127 < b {
         return space_len(s);
     }
     if is_blank(b) {
-        return 1;
+        return Some(1);
     }
     if b == b';' {
-        return 1 + scan::line_len(&s[1..]);
+        return Some(1 + scan::line_len(&s[1..]));
     }
-    0
+    None
 }
 
 // How many ASCII white-space bytes s begins with.
 fn blank_len(s: &[u8]) -> usize
     ensures { Blanks s.now result }
 {
-    let mut i = 0;
-    while i < s.len() && is_blank(s[i]) {
-        i += 1;
-    }
-    i
+    s.iter().take_while(|b| is_blank(**b)).count()
 }
 
 // The bytes of white space and comments at the front of s, one after another.
@@ -132,11 +117,7 @@ fn skip_all(s: &[u8]) -> usize
     ensures { result ≡ gap s.now }
 {
     let mut i = 0;
-    while i < s.len() {
-        let n = skip_len(&s[i..]);
-        if n == 0 {
-            return i;
-        }
+    while let Some(n) = skip_len(&s[i..]) {
         i += n;
     }
     i

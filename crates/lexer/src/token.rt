@@ -1,23 +1,31 @@
 // The token at the front of a text that begins with neither white space nor a comment.
 // The scanners are lent the rest of the text behind what is known of it, so that no byte is scanned twice.
-ghost use Rattle.std.specs.Prelude.{◌≡◌, ◌+◌, ◌^◌, ◌<◌, length, get_or, drop};
+ghost use Rattle.std.specs.Prelude.{◌≡◌, ◌+◌, ◌^◌, ◌<◌, length, get_or, drop, leb, unwrap_or, IfSome};
 ghost use Rattle.rules.specs.Tokens.{single as single_of, int_start, named as named_of, pattern as pattern_of, word as word_of, front as front_of};
 
 use rules::{Front, kind};
 
-// The kind of the token that b is by itself; 0 where it is none.
-pub fn single(b: u8) -> u32
-    ensures { result ≡ single_of b }
+// The kind of the token that b is by itself, where it is one.
+pub fn single(b: u8) -> Option<u32>
+    ensures kind { unwrap_or result 0 ≡ single_of b }
+    ensures some { IfSome result (λ k. 0 < k) }
 {
     match b {
-        b',' => kind::COMMA,
-        b'=' => kind::EQ,
-        b':' => kind::COLON,
-        b'(' => kind::OPEN_PAREN,
-        b')' => kind::CLOSE_PAREN,
-        b'[' => kind::OPEN_BRACKET,
-        _ => 0,
+        b',' => Some(kind::COMMA),
+        b'=' => Some(kind::EQ),
+        b':' => Some(kind::COLON),
+        b'(' => Some(kind::OPEN_PAREN),
+        b')' => Some(kind::CLOSE_PAREN),
+        b'[' => Some(kind::OPEN_BRACKET),
+        _ => None,
     }
+}
+
+// Whether b is a token by itself.
+pub fn is_single(b: u8) -> bool
+    ensures { result ≡ leb 1 (single_of b) }
+{
+    single(b).is_some()
 }
 
 // Whether an integer starts with b.
@@ -42,7 +50,7 @@ fn named(n: usize) -> Front
 fn pattern(s: &[u8]) -> Front
     ensures { result ≡ pattern_of s.now }
 {
-    if s.len() < 1 {
+    if s.is_empty() {
         return Front::Fault(8);
     }
     if s[0] != b'=' {
@@ -74,12 +82,11 @@ fn word(s: &[u8], n: usize) -> Front
 pub fn front(s: &[u8]) -> Front
     ensures { result ≡ front_of s.now }
 {
-    if s.len() < 1 {
+    if s.is_empty() {
         return Front::Nothing;
     }
     let b = s[0];
-    let k = single(b);
-    if 1 <= k {
+    if let Some(k) = single(b) {
         return Front::Spelt(k, 1);
     }
     if b == b'%' {

@@ -1,4 +1,4 @@
--- Each line as the pieces that it is written in, how long it is at most, and a writer of it once the first piece is written.
+-- Each line as the pieces that it is written in, and how long it is at most.
 -- Assumes nothing.
 use mathlib.Core.Path.{◌≡◌, ap, ◌∙◌, subst⁻¹}
 use mathlib.Core.Logic.{◌⊎◌, inl, inr}
@@ -15,7 +15,7 @@ use Rattle.rules.specs.declared.Span.{Span}
 use Rattle.rules.specs.declared.Statement.{Statement}
 use Rattle.rules.specs.Bytes.{bytes, inside}
 use Rattle.rules.specs.Integers.{decimal}
-use Rattle.rules.specs.Out.{joined, Wrote}
+use Rattle.rules.specs.Out.{joined}
 use Rattle.rules.specs.Keywords as keyword
 use Rattle.rules.specs.Rows.{letters_of, name_at, statement_at, keyword_code}
 use Rattle.rules.specs.WellFormed.{is_condition}
@@ -26,7 +26,6 @@ use Rattle.wide.proofs.Decimals.{decimal-most}
 use Rattle.pieces.specs.Bounds.{Few}
 use Rattle.proof_tails.proofs.Tails.{typing-tail, operand-tail, pair_tail, attribute-tail, root_attribute_tail, attributes-tail, side-tail}
 use Rattle.pieces.proofs.Bounds.{either, letters-short, name-short, typing-short, operand_short, pair_short, attributes-most, root_attributes_most}
-use Rattle.pieces.proofs.Chains.{Chain, chain_whole}
 use Rattle.lines.proofs.Sides.{as_side_short}
 
 assignment_pieces : (a : syntax.Assignment)
@@ -38,20 +37,20 @@ assignment_pieces a =
     ∙ ap (λ (l : List ℕ). typing a.typing [] ++ (bytes " = " ++ l))
     (side-tail a.side last ∙ ap (λ (l : List ℕ). side a.side [] ++ l) (attributes-tail attribute attribute-tail a.attributes (feed []))))
 
-pc_pieces : (x y : syntax.Operand) → line (syntax.pc x y) [] ≡ joined (bytes "pc " ∷ operand x (bytes " " ++ operand y []) ∷ feed [] ∷ [])
+pub pc_pieces : (x y : syntax.Operand) → line (syntax.pc x y) [] ≡ joined (bytes "pc " ∷ operand x (bytes " " ++ operand y []) ∷ feed [] ∷ [])
 pc_pieces x y = ap (λ (l : List ℕ). bytes "pc " ++ l) (pair_tail x y (feed []))
 
-blockpc_pieces : (n : syntax.Name) (k : ℕ) (x y : syntax.Operand)
+pub blockpc_pieces : (n : syntax.Name) (k : ℕ) (x y : syntax.Operand)
     → line (syntax.blockpc n k x y) [] ≡ joined (bytes "blockpc " ∷ n ∷ bytes " " ∷ decimal k ∷ operand x (bytes " " ++ operand y []) ∷ feed [] ∷ [])
 blockpc_pieces n k x y = ap (λ (l : List ℕ). bytes "blockpc " ++ (n ++ (bytes " " ++ (decimal k ++ l)))) (pair_tail x y (feed []))
 
-infer_pieces : (n : syntax.Name) (l : List syntax.RootAttribute) → infer_line n l [] ≡ joined (bytes "infer " ∷ n ∷ attributes root_attribute l [] ∷ feed [] ∷ [])
+pub infer_pieces : (n : syntax.Name) (l : List syntax.RootAttribute) → infer_line n l [] ≡ joined (bytes "infer " ∷ n ∷ attributes root_attribute l [] ∷ feed [] ∷ [])
 infer_pieces n l = ap (λ (t : List ℕ). bytes "infer " ++ (n ++ t)) (attributes-tail root_attribute root_attribute_tail l (feed []))
 
-result_pieces : (o : syntax.Operand) → result_line o [] ≡ joined (bytes "result " ∷ operand o [] ∷ feed [] ∷ [])
+pub result_pieces : (o : syntax.Operand) → result_line o [] ≡ joined (bytes "result " ∷ operand o [] ∷ feed [] ∷ [])
 result_pieces o = ap (λ (l : List ℕ). bytes "result " ++ l) (operand-tail o (feed []))
 
-cand_pieces : (x y : syntax.Operand) (l : List syntax.RootAttribute)
+pub cand_pieces : (x y : syntax.Operand) (l : List syntax.RootAttribute)
     → cand_line x y l [] ≡ joined (bytes "cand " ∷ operand x (bytes " " ++ operand y []) ∷ attributes root_attribute l [] ∷ feed [] ∷ [])
 cand_pieces x y l =
     ap (λ (t : List ℕ). bytes "cand " ++ t)
@@ -91,6 +90,11 @@ module _ (text S O A : List ℕ) where
   an_assignment r q =
       cond-false _ _ _ (ne_eqb r.code (keyword_code keyword.pc) (λ e. no_condition r.code q (inl e)))
       ∙ cond-false _ _ _ (ne_eqb r.code (keyword_code keyword.blockpc) (λ e. no_condition r.code q (inr e)))
+
+  pub said_pieces : (r : Statement) → is_condition r.code ≡ false
+      → line (as_statement text S O A r) []
+      ≡ joined (letters_of text r.name ∷ typing (typing_of r.width) [] ∷ bytes " = " ∷ side (as_side text S O r) [] ∷ attributes attribute (along (attribute_of text A) r.attributes) [] ∷ feed [] ∷ [])
+  said_pieces r q = ap (λ (s : syntax.Statement). line s []) (an_assignment r q) ∙ assignment_pieces (assigned r)
 
 module _ (text : List ℕ) (short : length text ≤ 65536) (S O A : List ℕ) where
   assignment-short : (r : Statement) → Few r.operands → Few r.attributes → length (line (syntax.assignment (assigned text S O A r)) []) ≤ 2 ^ 35
@@ -134,46 +138,3 @@ module _ (text : List ℕ) (short : length text ≤ 65536) (S O A : List ℕ) wh
   cand-short i j s w =
       as_short (cand_pieces (operand_of text S O i) (operand_of text S O j) (along (root_attribute_of text A) s))
       (simp length-append (omega (arith, pair_short text short S O i j, root_attributes_most text short A s w)))
-
-  -- writers of lines, the first piece of which is written
-  module _ {b a : List ℕ} {n : ℕ} where
-    pub assignment_begin : (r : Statement) → is_condition r.code ≡ false → Few r.operands → Few r.attributes → Wrote (letters_of text r.name) b a n
-        → Chain (line (as_statement text S O A r) [])
-        (typing (typing_of r.width) [] ∷ bytes " = " ∷ side (as_side text S O r) [] ∷ attributes attribute (along (attribute_of text A) r.attributes) [] ∷ feed [] ∷ []) b a n
-    assignment_begin r q w v =
-        chain_whole (letters_of text r.name)
-        (typing (typing_of r.width) [] ∷ bytes " = " ∷ side (as_side text S O r) [] ∷ attributes attribute (along (attribute_of text A) r.attributes) [] ∷ feed [] ∷ [])
-        (ap (λ (s : syntax.Statement). line s []) (an_assignment text S O A r q) ∙ assignment_pieces (assigned text S O A r))
-        (omega (arith, as_statement_short r w v))
-
-    pub pc_begin : (i j : ℕ) → Wrote (bytes "pc ") b a n
-        → Chain (line (syntax.pc (operand_of text S O i) (operand_of text S O j)) []) (operand (operand_of text S O i) (bytes " " ++ operand (operand_of text S O j) []) ∷ feed [] ∷ []) b a n
-    pc_begin i j =
-        chain_whole (bytes "pc ") (operand (operand_of text S O i) (bytes " " ++ operand (operand_of text S O j) []) ∷ feed [] ∷ [])
-        (pc_pieces (operand_of text S O i) (operand_of text S O j)) (omega (arith, pc-short i j))
-
-    pub blockpc_begin : (p k i j : ℕ) → Wrote (bytes "blockpc ") b a n
-        → Chain (line (syntax.blockpc (name_at text S p) k (operand_of text S O i) (operand_of text S O j)) [])
-        (name_at text S p ∷ bytes " " ∷ decimal k ∷ operand (operand_of text S O i) (bytes " " ++ operand (operand_of text S O j) []) ∷ feed [] ∷ []) b a n
-    blockpc_begin p k i j =
-        chain_whole (bytes "blockpc ")
-        (name_at text S p ∷ bytes " " ∷ decimal k ∷ operand (operand_of text S O i) (bytes " " ++ operand (operand_of text S O j) []) ∷ feed [] ∷ [])
-        (blockpc_pieces (name_at text S p) k (operand_of text S O i) (operand_of text S O j)) (omega (arith, blockpc-short p k i j))
-
-    pub infer_begin : (i : ℕ) (s : Span) → Few s → Wrote (bytes "infer ") b a n
-        → Chain (infer_line (name_at text S i) (along (root_attribute_of text A) s) []) (name_at text S i ∷ attributes root_attribute (along (root_attribute_of text A) s) [] ∷ feed [] ∷ []) b a n
-    infer_begin i s w =
-        chain_whole (bytes "infer ") (name_at text S i ∷ attributes root_attribute (along (root_attribute_of text A) s) [] ∷ feed [] ∷ [])
-        (infer_pieces (name_at text S i) (along (root_attribute_of text A) s)) (omega (arith, infer-short i s w))
-
-    pub result_begin : (i : ℕ) → Wrote (bytes "result ") b a n → Chain (result_line (operand_of text S O i) []) (operand (operand_of text S O i) [] ∷ feed [] ∷ []) b a n
-    result_begin i =
-        chain_whole (bytes "result ") (operand (operand_of text S O i) [] ∷ feed [] ∷ []) (result_pieces (operand_of text S O i)) (omega (arith, result-short i))
-
-    pub cand_begin : (i j : ℕ) (s : Span) → Few s → Wrote (bytes "cand ") b a n
-        → Chain (cand_line (operand_of text S O i) (operand_of text S O j) (along (root_attribute_of text A) s) [])
-        (operand (operand_of text S O i) (bytes " " ++ operand (operand_of text S O j) []) ∷ attributes root_attribute (along (root_attribute_of text A) s) [] ∷ feed [] ∷ []) b a n
-    cand_begin i j s w =
-        chain_whole (bytes "cand ")
-        (operand (operand_of text S O i) (bytes " " ++ operand (operand_of text S O j) []) ∷ attributes root_attribute (along (root_attribute_of text A) s) [] ∷ feed [] ∷ [])
-        (cand_pieces (operand_of text S O i) (operand_of text S O j) (along (root_attribute_of text A) s)) (omega (arith, cand-short i j s w))

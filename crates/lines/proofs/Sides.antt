@@ -1,6 +1,6 @@
--- Right sides: how long each is at most, and a writer of each of several pieces once the first of them is written.
+-- Right sides: how long each is at most, and the pieces that it is written in.
 -- Assumes nothing.
-use mathlib.Core.Path.{◌≡◌, refl, sym, ap}
+use mathlib.Core.Path.{◌≡◌, refl}
 use mathlib.Core.Bool.{Bool, true, cond, ◌&&◌}
 use mathlib.Core.List.{List, [], ◌∷◌, append-nil}
 use Prim.Native.Nat.{ℕ, zero, suc, ◌+◌, ◌-◌, ◌^◌, ◌≤◌}
@@ -8,15 +8,12 @@ use native.Mathlib.Omega.{arith}
 use borrow.Author.Tests.{leb-true}
 use lib.Dec.{eqb, leb}
 use lib.ListN.{length, get_or, length-append}
-use Rattle.laws.proofs.Over.{written}
 use Rattle.laws.proofs.Tests.{and_left, and_right}
-use Rattle.rules.specs.declared.Span.{Span}
 use Rattle.rules.specs.declared.Statement.{Statement}
 use Rattle.rules.specs.Bytes.{bytes}
-use Rattle.rules.specs.Integers.{decimal}
 use Rattle.rules.specs.Instructions.{Instruction, ◌takes◌, instructions, instruction_name}
 use Rattle.rules.specs.Keywords as keyword
-use Rattle.rules.specs.Out.{Wrote}
+use Rattle.rules.specs.Out.{joined}
 use Rattle.rules.specs.Rows.{name_at, keyword_code}
 use Rattle.rules.specs.Syntax as syntax
 use Rattle.rules.specs.View.{along, operand_of, as_side}
@@ -24,7 +21,6 @@ use Rattle.rules.specs.Printing.{further, operands, side}
 use Rattle.wide.proofs.Decimals.{decimal-most}
 use Rattle.pieces.specs.Bounds.{Few}
 use Rattle.pieces.proofs.Bounds.{either, name-most, further-most, operands-most}
-use Rattle.pieces.proofs.Chains.{Chain, chain_first}
 
 -- the longest instruction has 18 letters
 abbrev short-names : List Instruction → Bool
@@ -60,20 +56,9 @@ module _ (text : List ℕ) (short : length text ≤ 65536) (S O : List ℕ) wher
       (either f (eqb r.code (keyword_code keyword.reservedconst)) syntax.reservedconst last (omega arith)
       (simp length-append (omega (arith, instruction-short (r.code - 1), operands-most text short S O r.operands w)))))))
 
--- writers of right sides, the first piece of which is written
-module _ {b a : List ℕ} {r : ℕ} where
-  pub block_begin : (k : ℕ) → Wrote (bytes "block ") b a r → Chain (side (syntax.block k) []) (decimal k ∷ []) b a r
-  block_begin k = chain_first (bytes "block ") (decimal k ∷ []) refl (simp length-append (omega (arith, decimal-most k)))
+-- right sides as the pieces that they are written in
+pub phi_pieces : (n : syntax.Name) (l : List syntax.Operand) → side (syntax.phi n l) [] ≡ joined (bytes "phi " ∷ n ∷ further l [] ∷ [])
+phi_pieces n l = simp append-nil
 
-  module _ (text : List ℕ) (short : length text ≤ 65536) (S O : List ℕ) where
-    pub phi_begin : (i : ℕ) (s : Span) → Few s → Wrote (bytes "phi ") b a r
-        → Chain (side (syntax.phi (name_at text S i) (along (operand_of text S O) s)) []) (name_at text S i ∷ further (along (operand_of text S O) s) [] ∷ []) b a r
-    phi_begin i s w =
-        chain_first (bytes "phi ") (name_at text S i ∷ further (along (operand_of text S O) s) [] ∷ []) (simp append-nil)
-        (simp length-append (omega (arith, name-most text short S i, further-most text short S O s w)))
-
-    pub operation_begin : {n : ℕ} (k : ℕ) → n ≡ k → (s : Span) → Few s → Wrote (instruction_name n) b a r
-        → Chain (side (syntax.instruction k (along (operand_of text S O) s)) []) (operands (along (operand_of text S O) s) [] ∷ []) b a r
-    operation_begin k e s w x =
-        chain_first (instruction_name k) (operands (along (operand_of text S O) s) [] ∷ []) (simp append-nil)
-        (simp length-append (omega (arith, instruction-short k, operands-most text short S O s w))) (written (ap instruction_name (sym e)) x)
+pub operation_pieces : (k : ℕ) (l : List syntax.Operand) → side (syntax.instruction k l) [] ≡ joined (instruction_name k ∷ operands l [] ∷ [])
+operation_pieces k l = simp append-nil

@@ -1,76 +1,40 @@
 // Closing lines.
-ghost use Rattle.std.specs.Prelude.{[], ◌+◌, ◌≤◌, length};
-ghost use Rattle.rules.specs.Out.{Wrote};
-ghost use Rattle.rules.specs.Rows.{name_at};
-ghost use Rattle.rules.specs.View.{along, operand_of, root_attribute_of};
+ghost use Rattle.std.specs.Prelude.{[], ◌+◌, ◌≤◌};
+ghost use Rattle.rules.specs.View.{along};
 ghost use Rattle.rules.specs.Printing.{infer_line, result_line, cand_line};
-ghost use Rattle.pieces.specs.Bounds.{Few};
+ghost use Rattle.output.specs.Writing.{Writes};
+ghost use Rattle.pieces.specs.Sources.{name_in, operand_in, root_attribute_in};
 
-use output::{least, put};
-use pieces::attribute::put_root_attributes;
-use pieces::operand::{put_name, put_operand, put_pair};
+use output::writer::Writer;
+use pieces::Source;
 use rules::Span;
 
 // Writes the line of `infer`, which names a statement row and has the attribute rows of a span.
-pub fn put_infer(
-    text: &[u8],
-    statements: &[u32],
-    attributes: &[u32],
-    row: u32,
-    span: Span,
-    out: &mut [u8],
-) -> usize
-    requires text_len_bound { length text.now ≤ 65536 }
-    requires few { Few span }
-    ensures { Wrote (infer_line (name_at text.now statements.now row) (along (root_attribute_of text.now attributes.now) span) []) out.old out.new result }
+pub fn put_infer(source: &Source, row: u32, span: Span, writer: &mut Writer)
+    ensures { Writes (infer_line (name_in source.now row) (along (root_attribute_in source.now) span) []) writer.old writer.new }
 {
-    let mut n = put(b"infer ", out);
-    let at = least(n, out.len());
-    n += put_name(text, statements, row, &mut out[at..]);
-    let at = least(n, out.len());
-    n += put_root_attributes(text, attributes, span, &mut out[at..]);
-    let at = least(n, out.len());
-    n + put(b"\n", &mut out[at..])
+    writer.put(b"infer ");
+    source.put_name(row, writer);
+    source.put_root_attributes(span, writer);
+    writer.put(b"\n");
 }
 
 // Writes the line of `result`, which has operand row i.
-pub fn put_result(
-    text: &[u8],
-    statements: &[u32],
-    operands: &[u32],
-    i: u32,
-    out: &mut [u8],
-) -> usize
-    requires { length text.now ≤ 65536 }
-    ensures { Wrote (result_line (operand_of text.now statements.now operands.now i) []) out.old out.new result }
+pub fn put_result(source: &Source, i: u32, writer: &mut Writer)
+    ensures { Writes (result_line (operand_in source.now i) []) writer.old writer.new }
 {
-    let mut n = put(b"result ", out);
-    let at = least(n, out.len());
-    n += put_operand(text, statements, operands, i, &mut out[at..]);
-    let at = least(n, out.len());
-    n + put(b"\n", &mut out[at..])
+    writer.put(b"result ");
+    source.put_operand(i, writer);
+    writer.put(b"\n");
 }
 
 // Writes the line of `cand`, which has operand rows i and i + 1 and the attribute rows of a span.
-pub fn put_cand(
-    text: &[u8],
-    statements: &[u32],
-    operands: &[u32],
-    attributes: &[u32],
-    i: u32,
-    span: Span,
-    out: &mut [u8],
-) -> usize
-    requires text_len_bound { length text.now ≤ 65536 }
-    requires i_bound { i ≤ 65536 }
-    requires few { Few span }
-    ensures { Wrote (cand_line (operand_of text.now statements.now operands.now i) (operand_of text.now statements.now operands.now (i + 1)) (along (root_attribute_of text.now attributes.now) span) []) out.old out.new result }
+pub fn put_cand(source: &Source, i: u32, span: Span, writer: &mut Writer)
+    requires { i ≤ 65536 }
+    ensures { Writes (cand_line (operand_in source.now i) (operand_in source.now (i + 1)) (along (root_attribute_in source.now) span) []) writer.old writer.new }
 {
-    let mut n = put(b"cand ", out);
-    let at = least(n, out.len());
-    n += put_pair(text, statements, operands, i, &mut out[at..]);
-    let at = least(n, out.len());
-    n += put_root_attributes(text, attributes, span, &mut out[at..]);
-    let at = least(n, out.len());
-    n + put(b"\n", &mut out[at..])
+    writer.put(b"cand ");
+    source.put_pair(i, writer);
+    source.put_root_attributes(span, writer);
+    writer.put(b"\n");
 }

@@ -1,211 +1,106 @@
 // Statements, a line each.
-ghost use Rattle.std.specs.Prelude.{◌≡◌, false, [], ◌+◌, ◌-◌, ◌≤◌, length};
-ghost use Rattle.rules.specs.Out.{Wrote};
+ghost use Rattle.std.specs.Prelude.{◌≡◌, false, [], ◌+◌, ◌-◌, ◌≤◌};
 ghost use Rattle.rules.specs.Syntax.{block, phi, instruction, pc, blockpc};
-ghost use Rattle.rules.specs.Rows.{name_at, statement_at};
-ghost use Rattle.rules.specs.View.{along, operand_of, as_side, as_statement, statement_of};
+ghost use Rattle.rules.specs.Rows.{statement_at};
+ghost use Rattle.rules.specs.View.{along};
 ghost use Rattle.rules.specs.Printing.{side, line};
 ghost use Rattle.rules.specs.WellFormed.{is_condition};
-ghost use Rattle.pieces.specs.Bounds.{Few};
+ghost use Rattle.output.specs.Writing.{Writes};
+ghost use Rattle.pieces.specs.Sources.{name_in, operand_in};
+ghost use Rattle.lines.specs.Sources.{side_in, said_in, statement_in};
 
 use instructions::put_instruction;
-use output::{least, put};
-use pieces::attribute::put_attributes;
-use pieces::operand::{
-    put_further, put_letters, put_name, put_number, put_operands, put_pair, put_typing,
-};
+use output::writer::Writer;
+use pieces::Source;
+use pieces::operand::{put_number, put_typing};
 use rules::{Statement, code};
 use tables::rows::statement_at;
 
 // Writes `block` and a number.
-fn put_block(number: u32, out: &mut [u8]) -> usize
-    ensures { Wrote (side (block number) []) out.old out.new result }
+fn put_block(number: u32, writer: &mut Writer)
+    ensures { Writes (side (block number) []) writer.old writer.new }
 {
-    let n = put(b"block ", out);
-    let at = least(n, out.len());
-    n + put_number(number, &mut out[at..])
+    writer.put(b"block ");
+    put_number(number, writer);
 }
 
 // Writes `phi`, the name of a block and operands.
-fn put_phi(
-    text: &[u8],
-    statements: &[u32],
-    operands: &[u32],
-    row: Statement,
-    out: &mut [u8],
-) -> usize
-    requires text_len_bound { length text.now ≤ 65536 }
-    requires few { Few row.operands }
-    ensures { Wrote (side (phi (name_at text.now statements.now row.block) (along (operand_of text.now statements.now operands.now) row.operands)) []) out.old out.new result }
+fn put_phi(source: &Source, row: Statement, writer: &mut Writer)
+    ensures { Writes (side (phi (name_in source.now row.block) (along (operand_in source.now) row.operands)) []) writer.old writer.new }
 {
-    let mut n = put(b"phi ", out);
-    let at = least(n, out.len());
-    n += put_name(text, statements, row.block, &mut out[at..]);
-    let at = least(n, out.len());
-    n + put_further(text, statements, operands, row.operands, &mut out[at..])
+    writer.put(b"phi ");
+    source.put_name(row.block, writer);
+    source.put_further(row.operands, writer);
 }
 
-// The instruction of a statement's code, by its place in the table of instructions.
-fn instruction_of(code: u32) -> usize
-    ensures { result ≡ code - 1 }
+// Writes the name of the instruction of a statement's code and its operands.
+fn put_operation(source: &Source, row: Statement, writer: &mut Writer)
+    ensures { Writes (side (instruction (row.code - 1) (along (operand_in source.now) row.operands)) []) writer.old writer.new }
 {
-    if code == 0 {
-        return 0;
-    }
-    code as usize - 1
-}
-
-// Writes an instruction's name and its operands.
-fn put_operation(
-    text: &[u8],
-    statements: &[u32],
-    operands: &[u32],
-    row: Statement,
-    out: &mut [u8],
-) -> usize
-    requires text_len_bound { length text.now ≤ 65536 }
-    requires few { Few row.operands }
-    ensures { Wrote (side (instruction (row.code - 1) (along (operand_of text.now statements.now operands.now) row.operands)) []) out.old out.new result }
-{
-    let n = put_instruction(instruction_of(row.code), out);
-    let at = least(n, out.len());
-    n + put_operands(text, statements, operands, row.operands, &mut out[at..])
+    let place = row.code.saturating_sub(1) as usize;
+    writer.append(|rest| put_instruction(place, rest));
+    source.put_operands(row.operands, writer);
 }
 
 // Writes what stands right of `=`.
-fn put_side(
-    text: &[u8],
-    statements: &[u32],
-    operands: &[u32],
-    row: Statement,
-    out: &mut [u8],
-) -> usize
-    requires text_len_bound { length text.now ≤ 65536 }
-    requires few { Few row.operands }
-    ensures { Wrote (side (as_side text.now statements.now operands.now row) []) out.old out.new result }
+fn put_side(source: &Source, row: Statement, writer: &mut Writer)
+    ensures { Writes (side (side_in source.now row) []) writer.old writer.new }
 {
-    if row.code == code::VAR {
-        return put(b"var", out);
+    match row.code {
+        code::VAR => writer.put(b"var"),
+        code::BLOCK => put_block(row.number, writer),
+        code::PHI => put_phi(source, row, writer),
+        code::RESERVEDINST => writer.put(b"reservedinst"),
+        code::RESERVEDCONST => writer.put(b"reservedconst"),
+        _ => put_operation(source, row, writer),
     }
-    if row.code == code::BLOCK {
-        return put_block(row.number, out);
-    }
-    if row.code == code::PHI {
-        return put_phi(text, statements, operands, row, out);
-    }
-    if row.code == code::RESERVEDINST {
-        return put(b"reservedinst", out);
-    }
-    if row.code == code::RESERVEDCONST {
-        return put(b"reservedconst", out);
-    }
-    put_operation(text, statements, operands, row, out)
 }
 
 // Writes an assignment's line.
-fn put_assignment(
-    text: &[u8],
-    statements: &[u32],
-    operands: &[u32],
-    attributes: &[u32],
-    row: Statement,
-    out: &mut [u8],
-) -> usize
-    requires no_condition { is_condition row.code ≡ false }
-    requires text_len_bound { length text.now ≤ 65536 }
-    requires few { Few row.operands }
-    requires few_attributes { Few row.attributes }
-    ensures { Wrote (line (as_statement text.now statements.now operands.now attributes.now row) []) out.old out.new result }
+fn put_assignment(source: &Source, row: Statement, writer: &mut Writer)
+    requires { is_condition row.code ≡ false }
+    ensures { Writes (line (said_in source.now row) []) writer.old writer.new }
 {
-    let mut n = put_letters(text, row.name, out);
-    let at = least(n, out.len());
-    n += put_typing(row.width, &mut out[at..]);
-    let at = least(n, out.len());
-    n += put(b" = ", &mut out[at..]);
-    let at = least(n, out.len());
-    n += put_side(text, statements, operands, row, &mut out[at..]);
-    let at = least(n, out.len());
-    n += put_attributes(text, attributes, row.attributes, &mut out[at..]);
-    let at = least(n, out.len());
-    n + put(b"\n", &mut out[at..])
+    source.put_letters(row.name, writer);
+    put_typing(row.width, writer);
+    writer.put(b" = ");
+    put_side(source, row, writer);
+    source.put_attributes(row.attributes, writer);
+    writer.put(b"\n");
 }
 
 // Writes a path condition's line.
-fn put_pc(
-    text: &[u8],
-    statements: &[u32],
-    operands: &[u32],
-    row: Statement,
-    out: &mut [u8],
-) -> usize
-    requires text_len_bound { length text.now ≤ 65536 }
-    requires few { Few row.operands }
-    ensures { Wrote (line (pc (operand_of text.now statements.now operands.now row.operands.first) (operand_of text.now statements.now operands.now (row.operands.first + 1))) []) out.old out.new result }
+fn put_pc(source: &Source, row: Statement, writer: &mut Writer)
+    requires { row.operands.first ≤ 65536 }
+    ensures { Writes (line (pc (operand_in source.now row.operands.first) (operand_in source.now (row.operands.first + 1))) []) writer.old writer.new }
 {
-    let mut n = put(b"pc ", out);
-    let at = least(n, out.len());
-    n += put_pair(
-        text,
-        statements,
-        operands,
-        row.operands.first,
-        &mut out[at..],
-    );
-    let at = least(n, out.len());
-    n + put(b"\n", &mut out[at..])
+    writer.put(b"pc ");
+    source.put_pair(row.operands.first, writer);
+    writer.put(b"\n");
 }
 
 // Writes a block's path condition's line.
-fn put_blockpc(
-    text: &[u8],
-    statements: &[u32],
-    operands: &[u32],
-    row: Statement,
-    out: &mut [u8],
-) -> usize
-    requires text_len_bound { length text.now ≤ 65536 }
-    requires few { Few row.operands }
-    ensures { Wrote (line (blockpc (name_at text.now statements.now row.block) row.number (operand_of text.now statements.now operands.now row.operands.first) (operand_of text.now statements.now operands.now (row.operands.first + 1))) []) out.old out.new result }
+fn put_blockpc(source: &Source, row: Statement, writer: &mut Writer)
+    requires { row.operands.first ≤ 65536 }
+    ensures { Writes (line (blockpc (name_in source.now row.block) row.number (operand_in source.now row.operands.first) (operand_in source.now (row.operands.first + 1))) []) writer.old writer.new }
 {
-    let mut n = put(b"blockpc ", out);
-    let at = least(n, out.len());
-    n += put_name(text, statements, row.block, &mut out[at..]);
-    let at = least(n, out.len());
-    n += put(b" ", &mut out[at..]);
-    let at = least(n, out.len());
-    n += put_number(row.number, &mut out[at..]);
-    let at = least(n, out.len());
-    n += put_pair(
-        text,
-        statements,
-        operands,
-        row.operands.first,
-        &mut out[at..],
-    );
-    let at = least(n, out.len());
-    n + put(b"\n", &mut out[at..])
+    writer.put(b"blockpc ");
+    source.put_name(row.block, writer);
+    writer.put(b" ");
+    put_number(row.number, writer);
+    source.put_pair(row.operands.first, writer);
+    writer.put(b"\n");
 }
 
 // Writes the line of statement row i.
-pub fn put_line(
-    text: &[u8],
-    statements: &[u32],
-    operands: &[u32],
-    attributes: &[u32],
-    i: u32,
-    out: &mut [u8],
-) -> usize
-    requires text_len_bound { length text.now ≤ 65536 }
-    requires few { Few (statement_at statements.now i).operands }
-    requires few_attributes { Few (statement_at statements.now i).attributes }
-    ensures { Wrote (line (statement_of text.now statements.now operands.now attributes.now i) []) out.old out.new result }
+pub fn put_line(source: &Source, i: u32, writer: &mut Writer)
+    requires { (statement_at source.now.statements.now i).operands.first ≤ 65536 }
+    ensures { Writes (line (statement_in source.now i) []) writer.old writer.new }
 {
-    let row = statement_at(statements, i);
-    if row.code == code::PC {
-        return put_pc(text, statements, operands, row, out);
+    let row = statement_at(source.statements, i);
+    match row.code {
+        code::PC => put_pc(source, row, writer),
+        code::BLOCKPC => put_blockpc(source, row, writer),
+        _ => put_assignment(source, row, writer),
     }
-    if row.code == code::BLOCKPC {
-        return put_blockpc(text, statements, operands, row, out);
-    }
-    put_assignment(text, statements, operands, attributes, row, out)
 }

@@ -1,12 +1,10 @@
 -- What the words of a work area say: S marks, a word each, and from word S on a stack, its bottom first.
 -- Assumes nothing.
-use Rattle.std.specs.Prelude.{ℕ, zero, suc, ◌+◌, ◌*◌, ◌/◌, ◌%◌, ◌≤◌, ◌<◌, ◌≡◌, Bool, true, cond, not, ◌&&◌, List, [], ◌∷◌, eqb, ltb, length, get_or, set, take}
+use Rattle.std.specs.Prelude.{ℕ, zero, suc, ◌+◌, ◌*◌, ◌/◌, ◌%◌, ◌≤◌, ◌<◌, ◌≡◌, Bool, true, cond, not, ◌&&◌, List, [], ◌∷◌, eqb, ltb, length, get_or, set, take, Option, Some, None}
 use Rattle.rules.specs.Meaning.{All}
 use Rattle.listing.specs.Listing.{Marks, listing}
 use Rattle.listing.specs.References.{size, owned, refers}
 use Rattle.listing.specs.Machine.{Run, emit, lists, ended, Entry, trace, finished, traces, run}
-use Rattle.listing.specs.declared.Step.{Step}
-use Rattle.listing.specs.declared.Step.TheVariants.{Row, Done}
 
 -- whether row i has a mark; the work area with a mark at row i
 unfoldable pub has_mark : List ℕ → ℕ → Bool
@@ -88,6 +86,7 @@ pub record Ended (statements operands : List ℕ) (s : ℕ) (w : List ℕ) (t : 
   pub nothing : to_come statements operands s w t ≡ ended (marks_of w' s)
   pub ready : Ready statements operands s w' 0
 
-abbrev pub Advanced : List ℕ → List ℕ → ℕ → List ℕ → ℕ → List ℕ → Step → Type 0
-Advanced statements operands s w t w' (Row row walk) = Listed statements operands s w t w' row walk.depth
-Advanced statements operands s w t w' Done = Ended statements operands s w t w'
+-- what a walk has to come, once it was asked for its next row
+abbrev pub Advanced : List ℕ → List ℕ → ℕ → List ℕ → ℕ → List ℕ → Option ℕ → ℕ → Type 0
+Advanced statements operands s w t w' (Some row) t' = Listed statements operands s w t w' row t'
+Advanced statements operands s w t w' None t' = Ended statements operands s w t w'

@@ -24,10 +24,7 @@ pub fn clear_marks(work: &mut [u32], rows: u32)
     requires { rows ≤ length work.old }
     ensures { marks_of work.new rows ≡ none }
 {
-    let past = rows as usize;
-    let mut i = 0;
-    while i < past {
+    for i in 0..rows as usize {
         work[i] = 0;
-        i += 1;
     }
 }

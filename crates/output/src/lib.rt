@@ -2,6 +2,8 @@
 // answers its whole length whether there is or not: on an empty output it measures.
 #![tactic(auto)]
 
+pub mod writer;
+
 ghost use Rattle.std.specs.Prelude.{◌≡◌, min};
 ghost use Rattle.rules.specs.Out.{Wrote};
 
@@ -9,7 +11,7 @@ ghost use Rattle.rules.specs.Out.{Wrote};
 pub fn least(a: usize, b: usize) -> usize
     ensures { result ≡ min a b }
 {
-    if a <= b { a } else { b }
+    a.min(b)
 }
 
 // Writes a word at the front of an output that has room for it, and answers the word's length.
@@ -20,10 +22,6 @@ pub fn put(word: &[u8], out: &mut [u8]) -> usize
     if out.len() < n {
         return n;
     }
-    let mut i = 0;
-    while i < n {
-        out[i] = word[i];
-        i += 1;
-    }
+    out[..n].copy_from_slice(word);
     n
 }

@@ -1,4 +1,8 @@
-pub mod Values
 -- What the proofs share.
+pub mod Chains
+pub mod Steps
 pub mod Nexts
 pub mod Scope
+pub mod Claimed
+pub mod Loops
+pub mod Words

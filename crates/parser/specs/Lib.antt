@@ -1,2 +1,3 @@
--- What the contracts of this crate's own functions cite; those of its public functions cite `rules` and `tables` alone.
+-- What the contracts of the parser cite, and those of the reader.
+pub mod Stands
 pub mod Next

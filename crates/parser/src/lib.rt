@@ -1,55 +1,48 @@
-// The token helpers of the parser, in the order of the crate's `impl Parser`, and the search for a name.
-// Each is handed a state and hands one back; a token that was looked at is the state's `ahead`, one that was taken its `last`.
+// The parser: where it stands in a text, and the tables that it claims rows of. Its token helpers, in the order of the crate's `impl Parser`.
+// A rule of the grammar is a function over a parser. What is at fault ends the rule, and by `?` every rule that called it.
 #![tactic(auto)]
 
+pub mod claims;
+pub mod fault;
 pub mod names;
+pub mod stand;
 
-ghost use Rattle.std.specs.Prelude.{◌≡◌, List, ℕ, ◌-◌, ◌≤◌, ◌<◌, length};
+ghost use Rattle.std.specs.Prelude.{◌≡◌, ◌≤◌, ◌+◌, Some};
 ghost use Rattle.rules.specs.Reading as R;
+ghost use Rattle.rules.specs.Keywords.{keyword_number};
+ghost use Rattle.instructions.specs.Number.{instruction_number};
+ghost use Rattle.wide.specs.Wide.{bits};
+ghost use Rattle.parser.specs.Stands.{Runs, RunsTo, ahead_of, is_ahead, int_below};
+ghost use Rattle.parser.specs.Next.{next_of};
 ghost use Rattle.rules.specs.Tokens.{token_at};
-ghost use Rattle.tables.specs.Stands.{world, out, stands, run};
-ghost use Rattle.rules.specs.Faults.{integer};
-ghost use Rattle.wide.specs.Wide.{bits, as_field};
-ghost use Rattle.parser.specs.Next.{next_of, spot_next, pass};
 
-use instructions;
-use lexer;
-use rules::{Cursor, Lexed, Spot, fault, keyword, kind};
-use tables::{State, letters, nothing, refuse};
-use wide::{Fitted, Parsed, Wide};
+pub use fault::{Fault, What};
+use instructions::Instruction;
+use rules::keyword::Keyword;
+use rules::{Counts, Cursor, Lexed, Spot, kind};
+use stand::{Stand, Text};
+use tables::letters;
+use wide::Wide;
 
-// A state and an integer.
-#[derive(Clone, Copy)]
-pub struct Integer {
-    pub state: State,
-    pub value: Wide,
-}
-
-// A state and a number of 32 bits: a field, a width or a row.
-#[derive(Clone, Copy)]
-pub struct Number {
-    pub state: State,
-    pub value: u32,
-}
-
-// What stands next in a text: a token, or what is at fault and where. Its fields are plain words: a token is copied field by field, as it was stored.
-#[derive(Clone, Copy)]
-struct Next {
-    fault: u32,
-    kind: u32,
-    first: u32,
-    past: u32,
+// A text that is read: where the parser stands in it, the row of the item's first statement, the rows claimed, the lent tables, and an index of the item's names.
+#[derive(Drop)]
+pub struct Parser<'a, 'i> {
+    pub text: Text<'a>,
+    pub stand: Stand,
+    pub scope: u32,
+    pub counts: Counts,
+    pub items: &'a mut [u32],
+    pub statements: &'a mut [u32],
+    pub operands: &'a mut [u32],
+    pub attributes: &'a mut [u32],
+    pub index: &'i mut [u16],
 }
 
 // The text's last byte; 0 for the empty text.
-fn last_byte(text: &[u8]) -> Spot
-    requires { length text.now ≤ 65536 }
-    ensures { result ≡ R.last_byte text.now }
+fn last_byte(text: Text) -> Spot
+    ensures { result ≡ R.last_byte text.entry.bytes.now }
 {
-    if text.len() == 0 {
-        return nothing();
-    }
-    let at = (text.len() - 1) as u32;
+    let at = text.bytes.len().saturating_sub(1) as u32;
     Spot {
         kind: 0,
         first: at,
@@ -57,226 +50,202 @@ fn last_byte(text: &[u8]) -> Spot
     }
 }
 
-// What stands at or after a byte: each token is lexed here, once.
-fn lexed(text: &[u8], from: u32) -> Next
-    requires { length text.now ≤ 65536 }
-    ensures { result ≡ next_of text.now (token_at text.now from) }
+// The token at or after a byte, or none at the end of the text: each token is lexed here, once.
+fn lexed(text: Text, from: u32) -> Result<Option<Spot>, Fault>
+    ensures { result ≡ next_of (token_at text.entry.bytes.now from) }
 {
-    let at = from as usize;
-    match lexer::next_token(text, Cursor { at }) {
-        Lexed::Found(t) => Next {
-            fault: fault::NONE,
+    match lexer::next_token(text.bytes, Cursor { at: from as usize }) {
+        Lexed::Found(t) => Ok(Some(Spot {
             kind: t.kind,
             first: t.first as u32,
             past: t.past as u32,
-        },
-        Lexed::End => {
-            let spot = last_byte(text);
-            Next {
-                fault: fault::END,
-                kind: spot.kind,
-                first: spot.first,
-                past: spot.past,
-            }
+        })),
+        Lexed::End => Ok(None),
+        Lexed::Refused(p) => Err(Fault {
+            what: What::Lexer,
+            at: Spot {
+                kind: 0,
+                first: p as u32,
+                past: p as u32,
+            },
+        }),
+    }
+}
+
+impl<'a, 'i> Parser<'a, 'i> {
+    // The next token, looked at and not taken; none at the end of the text.
+    pub fn lookahead(&mut self) -> Result<Option<Spot>, Fault>
+        ensures { RunsTo ahead_of R.lookahead self.old result self.new }
+    {
+        if let Some(t) = self.stand.ahead {
+            return Ok(Some(t));
         }
-        Lexed::Refused(p) => Next {
-            fault: fault::LEXER,
-            kind: 0,
-            first: p as u32,
-            past: p as u32,
-        },
+        let Some(t) = lexed(self.text, self.stand.at)? else {
+            return Ok(None);
+        };
+        let at = t.past;
+        self.stand = Stand {
+            at,
+            ahead: Some(t),
+            last: t,
+        };
+        Ok(Some(t))
     }
-}
 
-// The token that stands next, or the place of what is at fault.
-fn spot(n: Next) -> Spot
-    ensures { result ≡ spot_next n }
-{
-    Spot {
-        kind: n.kind,
-        first: n.first,
-        past: n.past,
+    // The next token, taken.
+    pub fn token(&mut self) -> Result<Spot, Fault>
+        ensures { Runs R.token self.old result self.new }
+    {
+        if let Some(t) = self.stand.ahead {
+            self.stand = Stand {
+                at: self.stand.at,
+                ahead: None,
+                last: t,
+            };
+            return Ok(t);
+        }
+        let Some(t) = lexed(self.text, self.stand.at)? else {
+            return Err(Fault::new(What::End, last_byte(self.text)));
+        };
+        self.stand = Stand {
+            at: t.past,
+            ahead: None,
+            last: t,
+        };
+        Ok(t)
     }
-}
 
-// The state past what stands next, which is then the last token found, with a token ahead; or at fault there.
-fn past(s: State, n: Next, ahead: Spot) -> State
-    ensures { (result.ahead ≡ ahead) × (result.last ≡ spot_next n) × ((text : List ℕ) (I : List ℕ) (S : List ℕ) (O : List ℕ) (A : List ℕ) → out (spot_next n) text result I S O A ≡ pass n ahead (world text s I S O A)) }
-{
-    let mut t = s;
-    t.fault = n.fault;
-    t.at = n.past;
-    t.ahead = ahead;
-    t.last = spot(n);
-    t
-}
+    // A token of a kind.
+    #[tactic(auto, using(crate::proofs::Chains::ends), unfolding(rules::specs::Reading::expect))]
+    pub fn expect(&mut self, kind: u32) -> Result<Spot, Fault>
+        ensures { Runs (R.expect kind) self.old result self.new }
+    {
+        let t = self.token()?;
+        if t.kind == kind {
+            return Ok(t);
+        }
+        Err(Fault::new(What::Token, t))
+    }
 
-// The next token, looked at and not taken; of kind 0 at the end of the text.
-pub fn lookahead(text: &[u8], s: State) -> State
-    requires { length text.now ≤ 65536 }
-    ensures { (I : List ℕ) (S : List ℕ) (O : List ℕ) (A : List ℕ) → out result.ahead text.now result I S O A ≡ run (stands text.now s I S O A) R.lookahead }
-{
-    if s.fault != fault::NONE {
-        return s;
+    // The letters of a token.
+    pub fn letters(&self, t: Spot) -> &[u8]
+        ensures { result.now ≡ R.letters self.now.text.bytes.now t }
+    {
+        letters(self.text.bytes, t.first, t.past)
     }
-    if s.ahead.kind != 0 {
-        return s;
-    }
-    let n = lexed(text, s.at);
-    if n.fault == fault::END {
-        return s;
-    }
-    past(s, n, spot(n))
-}
 
-// The token ahead is taken.
-fn taken(s: State) -> State
-    ensures { (text : List ℕ) (I : List ℕ) (S : List ℕ) (O : List ℕ) (A : List ℕ) → out result.last text result I S O A ≡ run (stands text s I S O A) (R.taken s.ahead) }
-{
-    if s.fault != fault::NONE {
-        return s;
+    // The keyword that a token is.
+    pub fn keyword_at(&self, t: Spot) -> Option<Keyword>
+        ensures { keyword_number result ≡ R.keyword_at self.now.text.bytes.now t }
+    {
+        if t.kind != kind::IDENT {
+            return None;
+        }
+        instructions::keyword(self.letters(t))
     }
-    let spot = s.ahead;
-    let mut t = s;
-    t.ahead = nothing();
-    t.last = spot;
-    t
-}
 
-// The next token, taken.
-pub fn token(text: &[u8], s: State) -> State
-    requires { length text.now ≤ 65536 }
-    ensures { (I : List ℕ) (S : List ℕ) (O : List ℕ) (A : List ℕ) → out result.last text.now result I S O A ≡ run (stands text.now s I S O A) R.token }
-{
-    if s.fault != fault::NONE {
-        return s;
+    // The instruction that a token names.
+    pub fn instruction_at(&self, t: Spot) -> Option<Instruction>
+        ensures { instruction_number result ≡ R.instruction_at self.now.text.bytes.now t }
+    {
+        if t.kind != kind::IDENT {
+            return None;
+        }
+        instructions::instruction(self.letters(t))
     }
-    if s.ahead.kind != 0 {
-        return taken(s);
-    }
-    past(s, lexed(text, s.at), nothing())
-}
 
-// A token of a kind.
-pub fn expect(text: &[u8], s: State, kind: u32) -> State
-    requires { length text.now ≤ 65536 }
-    ensures { (I : List ℕ) (S : List ℕ) (O : List ℕ) (A : List ℕ) → out result.last text.now result I S O A ≡ run (stands text.now s I S O A) (R.expect kind) }
-{
-    let t = token(text, s);
-    let spot = t.last;
-    if spot.kind == kind {
-        return t;
-    }
-    refuse(t, fault::TOKEN, spot)
-}
-
-// The keyword that a token is.
-pub fn keyword_at(text: &[u8], t: Spot) -> u8
-    ensures { result ≡ R.keyword_at text.now t }
-{
-    if t.kind != kind::IDENT {
-        return keyword::OTHER;
-    }
-    instructions::keyword(letters(text, t.first, t.past))
-}
-
-// The instruction that a token names, by its place; 59 where it names none.
-pub fn instruction_at(text: &[u8], t: Spot) -> usize
-    ensures { result ≡ R.instruction_at text.now t }
-{
-    if t.kind != kind::IDENT {
-        return 59;
-    }
-    instructions::instruction(letters(text, t.first, t.past))
-}
-
-// A keyword.
-pub fn ident(text: &[u8], s: State, which: u8) -> State
-    requires { length text.now ≤ 65536 }
-    ensures { (I : List ℕ) (S : List ℕ) (O : List ℕ) (A : List ℕ) → out result.last text.now result I S O A ≡ run (stands text.now s I S O A) (R.ident which) }
-{
-    let t = token(text, s);
-    let spot = t.last;
-    if keyword_at(text, spot) == which {
-        return t;
-    }
-    refuse(t, fault::TOKEN, spot)
-}
-
-// An integer.
-pub fn int(text: &[u8], s: State) -> Integer
-    requires { length text.now ≤ 65536 }
-    ensures { (I : List ℕ) (S : List ℕ) (O : List ℕ) (A : List ℕ) → out (bits result.value) text.now result.state I S O A ≡ run (stands text.now s I S O A) R.int }
-{
-    let t = expect(text, s, kind::INT);
-    let spot = t.last;
-    match Wide::from_digits(letters(text, spot.first, spot.past)) {
-        Parsed::Value(w) => Integer { state: t, value: w },
-        Parsed::Malformed => Integer {
-            state: refuse(t, fault::INTEGER, spot),
-            value: Wide::small(0),
-        },
-    }
-}
-
-// A number that fits its field, or a fault at the last token.
-fn field(s: State, n: Fitted) -> Number
-    ensures { (text : List ℕ) (I : List ℕ) (S : List ℕ) (O : List ℕ) (A : List ℕ) → out result.value text result.state I S O A ≡ run (stands text s I S O A) (R.valued (as_field n) integer s.last) }
-{
-    match n {
-        Fitted::Fits(v) => Number { state: s, value: v },
-        Fitted::Outside => {
-            let spot = s.last;
-            Number {
-                state: refuse(s, fault::INTEGER, spot),
-                value: 0,
-            }
+    // The keyword that comes next, looked at and not taken.
+    #[tactic(auto, using(crate::proofs::Chains::ends), unfolding(rules::specs::Reading::lookahead_ident))]
+    pub fn keyword_ahead(&mut self) -> Result<Option<Keyword>, Fault>
+        ensures { RunsTo keyword_number R.lookahead_ident self.old result self.new }
+    {
+        match self.lookahead()? {
+            Some(t) => Ok(self.keyword_at(t)),
+            None => Ok(None),
         }
     }
-}
 
-// An integer that fits 8 bits, unsigned.
-pub fn int_8(text: &[u8], s: State) -> Number
-    requires { length text.now ≤ 65536 }
-    ensures { (I : List ℕ) (S : List ℕ) (O : List ℕ) (A : List ℕ) → out result.value text.now result.state I S O A ≡ run (stands text.now s I S O A) (R.int_field 8) }
-{
-    let n = int(text, s);
-    field(n.state, n.value.fits_8())
-}
-
-// An integer that fits 32 bits, unsigned.
-pub fn int_32(text: &[u8], s: State) -> Number
-    requires { length text.now ≤ 65536 }
-    ensures { (I : List ℕ) (S : List ℕ) (O : List ℕ) (A : List ℕ) → out result.value text.now result.state I S O A ≡ run (stands text.now s I S O A) (R.int_field 32) }
-{
-    let n = int(text, s);
-    field(n.state, n.value.fits_32())
-}
-
-// A type's width.
-pub fn type_width(text: &[u8], s: State) -> Number
-    requires { length text.now ≤ 65536 }
-    ensures { (I : List ℕ) (S : List ℕ) (O : List ℕ) (A : List ℕ) → out result.value text.now result.state I S O A ≡ run (stands text.now s I S O A) R.type }
-{
-    let t = expect(text, s, kind::IDENT);
-    let spot = t.last;
-    match wide::type_width(letters(text, spot.first, spot.past)) {
-        Fitted::Fits(n) => Number { state: t, value: n },
-        Fitted::Outside => Number {
-            state: refuse(t, fault::TOKEN, spot),
-            value: 0,
-        },
+    // Whether a token of a kind comes next.
+    #[tactic(auto, using(crate::proofs::Chains::ends), unfolding(crate::specs::Stands::is_ahead))]
+    pub fn is_ahead(&mut self, kind: u32) -> Result<bool, Fault>
+        requires { 1 ≤ kind }
+        ensures { Runs (is_ahead kind) self.old result self.new }
+    {
+        match self.lookahead()? {
+            Some(t) => Ok(t.kind == kind),
+            None => Ok(false),
+        }
     }
-}
 
-// ':' and a type's width, or 0.
-pub fn type_if_any(text: &[u8], s: State) -> Number
-    requires { length text.now ≤ 65536 }
-    ensures { (I : List ℕ) (S : List ℕ) (O : List ℕ) (A : List ℕ) → out result.value text.now result.state I S O A ≡ run (stands text.now s I S O A) R.type_if_any }
-{
-    let t = lookahead(text, s);
-    if t.ahead.kind == kind::COLON {
-        return type_width(text, token(text, t));
+    // A keyword.
+    #[tactic(auto, using(crate::proofs::Chains::ends), unfolding(rules::specs::Reading::ident))]
+    pub fn ident(&mut self, which: Keyword) -> Result<Spot, Fault>
+        ensures { Runs (R.ident (keyword_number (Some which))) self.old result self.new }
+    {
+        let t = self.token()?;
+        if self.keyword_at(t) == Some(which) {
+            return Ok(t);
+        }
+        Err(Fault::new(What::Token, t))
     }
-    Number { state: t, value: 0 }
+
+    // An integer.
+    #[tactic(auto, using(crate::proofs::Chains::ends), unfolding(rules::specs::Reading::int))]
+    pub fn int(&mut self) -> Result<Wide, Fault>
+        ensures { RunsTo bits R.int self.old result self.new }
+    {
+        let t = self.expect(kind::INT)?;
+        match Wide::from_digits(self.letters(t)) {
+            Some(w) => Ok(w),
+            None => Err(Fault::new(What::Integer, t)),
+        }
+    }
+
+    // An integer that fits a field, unsigned; a fault at its token where it is above the most that does.
+    #[tactic(auto, using(crate::proofs::Chains::ends), unfolding(crate::specs::Stands::int_below))]
+    fn int_field(&mut self, most: u32) -> Result<u32, Fault>
+        ensures { Runs (int_below (most + 1)) self.old result self.new }
+    {
+        let n = self.int()?;
+        match n.fits(most) {
+            Some(v) => Ok(v),
+            None => Err(Fault::new(What::Integer, self.stand.last)),
+        }
+    }
+
+    // An integer that fits 8 bits, unsigned.
+    pub fn int_8(&mut self) -> Result<u32, Fault>
+        ensures { Runs (R.int_field 8) self.old result self.new }
+    {
+        self.int_field(u8::MAX as u32)
+    }
+
+    // An integer that fits 32 bits, unsigned.
+    pub fn int_32(&mut self) -> Result<u32, Fault>
+        ensures { Runs (R.int_field 32) self.old result self.new }
+    {
+        self.int_field(u32::MAX)
+    }
+
+    // A type's width.
+    pub fn type_width(&mut self) -> Result<u32, Fault>
+        ensures { Runs R.type self.old result self.new }
+    {
+        let t = self.expect(kind::IDENT)?;
+        match wide::type_width(self.letters(t)) {
+            Some(n) => Ok(n),
+            None => Err(Fault::new(What::Token, t)),
+        }
+    }
+
+    // ':' and a type's width, or 0.
+    pub fn type_if_any(&mut self) -> Result<u32, Fault>
+        ensures { Runs R.type_if_any self.old result self.new }
+    {
+        if self.is_ahead(kind::COLON)? {
+            self.token()?;
+            return self.type_width();
+        }
+        Ok(0)
+    }
 }

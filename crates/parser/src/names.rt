@@ -1,82 +1,108 @@
 // Names, looked for among the item's statements by an index.
-ghost use Rattle.std.specs.Prelude.{◌≡◌, List, ℕ, ◌≤◌, length};
+ghost use Rattle.std.specs.Prelude.{◌≡◌, Ok};
 ghost use Rattle.rules.specs.Reading as R;
-ghost use Rattle.tables.specs.Stands.{world, out, stands, run};
+ghost use Rattle.rules.specs.Rows.{statement_at};
 ghost use Rattle.index.specs.Linked.{Holds};
-ghost use Rattle.index.specs.Ready.{Ready};
+ghost use Rattle.parser.specs.Stands.{Ready, Runs, rests, world};
 
-use crate::{Number, expect};
-use index::find;
-use rules::{Row, Spot, code, fault, kind};
-use tables::rows::code_at;
-use tables::{State, letters, refuse};
+use crate::Parser;
+use crate::fault::{Fault, What};
+use rules::{Spot, code, kind};
+use tables::rows::{code_at, number_at};
 
-// The item's statement that has the name which a token is.
-pub fn in_scope(text: &[u8], s: State, statements: &[u32], index: &[u16], t: Spot) -> Row
-    ensures { Holds text.now statements.now index.now s.scope s.statements → (I : List ℕ) (O : List ℕ) (A : List ℕ) → result ≡ R.in_scope t (world text.now s I statements.now O A) }
-{
-    let first = s.scope;
-    let past = s.statements;
-    find(
-        text,
-        statements,
-        index,
-        letters(text, t.first, t.past),
-        first,
-        past,
-    )
-}
-
-// A name in scope, by its statement's row.
-pub fn value(text: &[u8], s: State, statements: &[u32], index: &[u16]) -> Number
-    requires text_len_bound { length text.now ≤ 65536 }
-    requires ready { Ready text.now s statements.now index.now }
-    ensures { (I : List ℕ) (O : List ℕ) (A : List ℕ) → out result.value text.now result.state I statements.now O A ≡ run (stands text.now s I statements.now O A) R.value }
-{
-    let t = expect(text, s, kind::VAL_NAME);
-    let spot = t.last;
-    match in_scope(text, t, statements, index, spot) {
-        Row::At(r) => Number { state: t, value: r },
-        Row::Missing => Number {
-            state: refuse(t, fault::UNKNOWN, spot),
-            value: 0,
-        },
+impl<'a, 'i> Parser<'a, 'i> {
+    // The item's statement that has the name which a token is.
+    pub fn in_scope(&self, t: Spot) -> Option<u32>
+        requires { Ready self.now }
+        ensures { result ≡ R.in_scope t (world self.now) }
+    {
+        let first = self.scope;
+        let past = self.counts.statements;
+        index::find(
+            self.text.bytes,
+            self.statements,
+            self.index,
+            self.letters(t),
+            first,
+            past,
+        )
     }
-}
 
-// A name that is not in scope yet.
-pub fn new_name(text: &[u8], s: State, statements: &[u32], index: &[u16]) -> State
-    requires text_len_bound { length text.now ≤ 65536 }
-    requires ready { Ready text.now s statements.now index.now }
-    ensures { (I : List ℕ) (O : List ℕ) (A : List ℕ) → out result.last text.now result I statements.now O A ≡ run (stands text.now s I statements.now O A) R.new_name }
-{
-    let t = expect(text, s, kind::VAL_NAME);
-    let spot = t.last;
-    match in_scope(text, t, statements, index, spot) {
-        Row::At(_) => refuse(t, fault::REDEFINED, spot),
-        Row::Missing => t,
+    // The code of a statement, by its row.
+    fn code_of(&self, row: u32) -> u32
+        ensures { result ≡ (statement_at self.now.statements.now row).code }
+    {
+        code_at(&*self.statements, row)
     }
-}
 
-// The name of a block in scope, by its statement's row.
-pub fn block(text: &[u8], s: State, statements: &[u32], index: &[u16]) -> Number
-    requires text_len_bound { length text.now ≤ 65536 }
-    requires ready { Ready text.now s statements.now index.now }
-    ensures { (I : List ℕ) (O : List ℕ) (A : List ℕ) → out result.value text.now result.state I statements.now O A ≡ run (stands text.now s I statements.now O A) R.block }
-{
-    let t = expect(text, s, kind::VAL_NAME);
-    let spot = t.last;
-    let Row::At(r) = in_scope(text, t, statements, index, spot) else {
-        return Number {
-            state: refuse(t, fault::NO_BLOCK, spot),
-            value: 0,
+    // The number of a statement, by its row.
+    pub fn number_of(&self, row: u32) -> u32
+        ensures { result ≡ (statement_at self.now.statements.now row).number }
+    {
+        number_at(&*self.statements, row)
+    }
+
+    // A name in scope, by its statement's row.
+    #[tactic(auto, using(crate::proofs::Chains::ends), unfolding(rules::specs::Reading::value))]
+    pub fn value(&mut self) -> Result<u32, Fault>
+        requires { Ready self.old }
+        ensures { Runs R.value self.old result self.new }
+    {
+        let t = self.expect(kind::VAL_NAME)?;
+        match self.in_scope(t) {
+            Some(r) => Ok(r),
+            None => Err(Fault::new(What::Unknown, t)),
+        }
+    }
+
+    // A name that is not in scope yet.
+    #[tactic(auto, using(crate::proofs::Chains::ends), unfolding(rules::specs::Reading::new_name))]
+    pub fn new_name(&mut self) -> Result<Spot, Fault>
+        requires { Ready self.old }
+        ensures { Runs R.new_name self.old result self.new }
+    {
+        let t = self.expect(kind::VAL_NAME)?;
+        match self.in_scope(t) {
+            Some(_) => Err(Fault::new(What::Redefined, t)),
+            None => Ok(t),
+        }
+    }
+
+    // The name of a block in scope, by its statement's row.
+    #[tactic(auto, using(crate::proofs::Chains::ends), unfolding(rules::specs::Reading::block))]
+    pub fn block(&mut self) -> Result<u32, Fault>
+        requires { Ready self.old }
+        ensures { Runs R.block self.old result self.new }
+    {
+        let t = self.expect(kind::VAL_NAME)?;
+        let Some(r) = self.in_scope(t) else {
+            return Err(Fault::new(What::NoBlock, t));
         };
-    };
-    if code_at(statements, r) == code::BLOCK {
-        return Number { state: t, value: r };
+        if self.code_of(r) == code::BLOCK {
+            return Ok(r);
+        }
+        Err(Fault::new(What::NoBlock, t))
     }
-    Number {
-        state: refuse(t, fault::NO_BLOCK, spot),
-        value: 0,
+
+    // Statement rows of the item enter an index.
+    fn hold_in(&self, index: &mut [u16])
+        ensures { Holds self.now.text.bytes.now self.now.statements.now index.old self.now.scope self.now.counts.statements → Holds self.now.text.bytes.now self.now.statements.now index.new self.now.scope self.now.counts.statements }
+    {
+        index::hold(
+            self.text.bytes,
+            self.statements,
+            index,
+            self.scope,
+            self.counts.statements,
+        );
+    }
+
+    // Statement rows of the item enter the index, once there are many that have not. It is taken out meanwhile: no proof covers a call that is lent both.
+    pub fn hold(&mut self)
+        ensures { Runs rests self.old (Ok tt) self.new }
+    {
+        let words = std::mem::take(&mut self.index);
+        self.hold_in(words);
+        self.index = words;
     }
 }

@@ -5,7 +5,7 @@ use mathlib.Core.Path.{◌≡◌, sym, ◌∙◌}
 use mathlib.Core.List.{List}
 use denote.Ref.{Bor}
 use Rattle.rules.specs.declared.Entry.{Entry}
-use Rattle.rules.specs.declared.Answer.{Answer}
+use Rattle.rules.specs.Answer.{Answer}
 use Rattle.rules.specs.declared.Span.{Span}
 use Rattle.rules.specs.Answers.{Outcome, Leaves, Reads, Reports}
 use Rattle.rules.specs.Prints.{Prints, PrintReports, name_part, name_report}

@@ -3,8 +3,8 @@
 use Prim.Native.Nat.{ℕ}
 use mathlib.Core.Path.{◌≡◌, sym, ◌∙◌}
 use mathlib.Core.List.{List}
-use Rattle.rules.specs.declared.StoreAnswer.{StoreAnswer}
-use Rattle.rules.specs.declared.LoadAnswer.{LoadAnswer}
+use Rattle.rules.specs.StoreAnswer.{StoreAnswer}
+use Rattle.rules.specs.LoadAnswer.{LoadAnswer}
 use Rattle.rules.specs.Stored.{Loading, LoadLeaves, Stores, Loads, StoreReports, LoadReports}
 use Rattle.rules.specs.WellFormed.{Counts}
 use Rattle.peldarox.proofs.Unique.{Same}

@@ -2,17 +2,19 @@
 // answer and every lent word. The crate peldarox_c has the same calls for C.
 #![tactic(auto)]
 
-ghost use Rattle.std.specs.Prelude.{◌≡◌, List, ℕ, ◌≤◌, length, get_or};
+ghost use Rattle.std.specs.Prelude.{◌≡◌, ℕ, get_or};
 ghost use Rattle.rules.specs.Answers.{Ends, Reads, refusal, outcome, lent, fault_number, start as start_of};
+ghost use Rattle.rules.specs.Results.{number_of, read_answer};
 ghost use Rattle.rules.specs.Reading.{items as items_rule};
-ghost use Rattle.tables.specs.Stands.{stands};
+ghost use Rattle.parser.specs.Stands.{Keeps, told, number_of as number_in};
 
+use parser::stand::{Stand, Text};
+use parser::{Fault, Parser, What};
 pub use prints::{name, print};
 use reader::items::items_of;
-use rules::{Answer, Checked, Entry, fault};
+use rules::{Counts, Entry, Reason, Refusal, Spot};
 pub use store::{load, store};
 pub use stream::Stream;
-use tables::{State, clear_tables, start};
 
 // Replacements, up to the end of the text.
 pub fn read_replacements(
@@ -21,8 +23,8 @@ pub fn read_replacements(
     statements: &mut [u32],
     operands: &mut [u32],
     attributes: &mut [u32],
-) -> Answer
-    ensures { Reads Entry.Replacements text.now items.old statements.old operands.old attributes.old result items.new statements.new operands.new attributes.new }
+) -> Result<Counts, Refusal>
+    ensures { Reads Entry.Replacements text.now items.old statements.old operands.old attributes.old (read_answer result) items.new statements.new operands.new attributes.new }
 {
     read(
         text,
@@ -41,8 +43,8 @@ pub fn read_left_hand_sides(
     statements: &mut [u32],
     operands: &mut [u32],
     attributes: &mut [u32],
-) -> Answer
-    ensures { Reads Entry.LeftHandSides text.now items.old statements.old operands.old attributes.old result items.new statements.new operands.new attributes.new }
+) -> Result<Counts, Refusal>
+    ensures { Reads Entry.LeftHandSides text.now items.old statements.old operands.old attributes.old (read_answer result) items.new statements.new operands.new attributes.new }
 {
     read(
         text,
@@ -61,8 +63,8 @@ pub fn read_right_hand_sides(
     statements: &mut [u32],
     operands: &mut [u32],
     attributes: &mut [u32],
-) -> Answer
-    ensures { Reads Entry.RightHandSides text.now items.old statements.old operands.old attributes.old result items.new statements.new operands.new attributes.new }
+) -> Result<Counts, Refusal>
+    ensures { Reads Entry.RightHandSides text.now items.old statements.old operands.old attributes.old (read_answer result) items.new statements.new operands.new attributes.new }
 {
     read(
         text,
@@ -82,16 +84,33 @@ fn read(
     operands: &mut [u32],
     attributes: &mut [u32],
     entry: Entry,
-) -> Answer
-    ensures { Reads entry text.now items.old statements.old operands.old attributes.old result items.new statements.new operands.new attributes.new }
+) -> Result<Counts, Refusal>
+    ensures { Reads entry text.now items.old statements.old operands.old attributes.old (read_answer result) items.new statements.new operands.new attributes.new }
 {
     let too_long = 65536 < text.len();
     if too_long {
-        return refused(items, statements, operands, attributes, 1, 65536);
+        let why = Refusal {
+            reason: Reason::TextTooLong,
+            place: 65536,
+        };
+        return refused(items, statements, operands, attributes, why);
     }
     match utf8::check(text) {
-        Checked::IllFormed(p) => refused(items, statements, operands, attributes, 2, p as u64),
-        Checked::WellFormed => read_checked(text, items, statements, operands, attributes, entry),
+        Err(bad) => {
+            let why = Refusal {
+                reason: Reason::NotUtf8,
+                place: bad.at as u64,
+            };
+            refused(items, statements, operands, attributes, why)
+        }
+        Ok(()) => read_checked(
+            Text { bytes: text },
+            items,
+            statements,
+            operands,
+            attributes,
+            entry,
+        ),
     }
 }
 
@@ -101,116 +120,115 @@ fn refused(
     statements: &mut [u32],
     operands: &mut [u32],
     attributes: &mut [u32],
-    number: u32,
-    place: u64,
-) -> Answer
-    ensures { Ends (refusal number place) items.old statements.old operands.old attributes.old result items.new statements.new operands.new attributes.new }
+    why: Refusal,
+) -> Result<Counts, Refusal>
+    ensures { Ends (refusal (number_of why.reason) why.place) items.old statements.old operands.old attributes.old (read_answer result) items.new statements.new operands.new attributes.new }
 {
-    clear_tables(start(), items, statements, operands, attributes);
-    Answer::Refused { number, place }
+    items.fill(0);
+    statements.fill(0);
+    operands.fill(0);
+    attributes.fill(0);
+    Err(why)
 }
 
-// The number of what is at fault.
-fn number_of(what: u32) -> u32
-    ensures { result ≡ fault_number what }
+// The reason to refuse for what is at fault.
+#[tactic(auto, unfolding(rules::specs::Answers::fault_number))]
+fn reason_of(what: What) -> Reason
+    ensures { number_of result ≡ fault_number (number_in what) }
 {
     match what {
-        fault::LEXER => 3,
-        fault::TOKEN => 4,
-        fault::END => 4,
-        fault::INTEGER => 5,
-        fault::UNKNOWN => 6,
-        fault::REDEFINED => 6,
-        fault::NO_BLOCK => 6,
-        fault::NO_ROW => 7,
-        _ => 0,
+        What::Lexer => Reason::NoToken,
+        What::Token | What::End => Reason::Unwanted,
+        What::Integer => Reason::BadInteger,
+        What::Unknown | What::Redefined | What::NoBlock => Reason::BadName,
+        What::NoRow => Reason::NoRow,
     }
 }
 
-// What a reading came to: the counted rows and zeros behind them, or the number and place of what is at fault.
-fn finish(
-    s: State,
-    items: &mut [u32],
-    statements: &mut [u32],
-    operands: &mut [u32],
-    attributes: &mut [u32],
-) -> Answer
-    ensures { (text : List ℕ) → Ends (outcome (stands text s items.old statements.old operands.old attributes.old)) items.old statements.old operands.old attributes.old result items.new statements.new operands.new attributes.new }
+// What a reading came to: the counted rows and zeros behind them, or why and where it is refused.
+fn finish(p: &mut Parser, ended: Result<(), Fault>) -> Result<Counts, Refusal>
+    ensures ends { Ends (outcome (told (λ u. u) ended p.old)) p.old.items.now p.old.statements.now p.old.operands.now p.old.attributes.now (read_answer result) p.new.items.now p.new.statements.now p.new.operands.now p.new.attributes.now }
+    ensures keeps { Keeps p.old p.new }
 {
-    let refuses = s.fault != fault::NONE;
-    if refuses {
-        return refused(
-            items,
-            statements,
-            operands,
-            attributes,
-            number_of(s.fault),
-            s.last.first as u64,
-        );
-    }
-    clear_tables(s, items, statements, operands, attributes);
-    Answer::Read {
-        items: s.items,
-        statements: s.statements,
-        operands: s.operands,
-        attributes: s.attributes,
+    match ended {
+        Ok(()) => {
+            p.clear();
+            Ok(p.counts)
+        }
+        Err(f) => {
+            p.counts = Counts::NONE;
+            p.clear();
+            Err(Refusal {
+                reason: reason_of(f.what),
+                place: f.at.first as u64,
+            })
+        }
     }
 }
 
 // A well-formed text within the limit, with an index that holds nothing.
 fn read_indexed(
-    text: &[u8],
+    text: Text,
     items: &mut [u32],
     statements: &mut [u32],
-    index: &mut [u16],
     operands: &mut [u32],
     attributes: &mut [u32],
+    index: &mut [u16],
     entry: Entry,
-) -> Answer
-    requires text_len_bound { length text.now ≤ 65536 }
-    requires blank { (h : ℕ) → get_or index.old h 0 ≡ 0 }
-    ensures { Ends (outcome (items_rule entry (start_of text.now (lent items.old statements.old operands.old attributes.old)))) items.old statements.old operands.old attributes.old result items.new statements.new operands.new attributes.new }
+) -> Result<Counts, Refusal>
+    requires { (h : ℕ) → get_or index.old h 0 ≡ 0 }
+    ensures { Ends (outcome (items_rule entry (start_of text.entry.bytes.now (lent items.old statements.old operands.old attributes.old)))) items.old statements.old operands.old attributes.old (read_answer result) items.new statements.new operands.new attributes.new }
 {
-    let s = items_of(
+    let none = Spot {
+        kind: 0,
+        first: 0,
+        past: 0,
+    };
+    let mut p = Parser {
         text,
-        start(),
+        stand: Stand {
+            at: 0,
+            ahead: None,
+            last: none,
+        },
+        scope: 0,
+        counts: Counts::NONE,
         items,
         statements,
-        index,
         operands,
         attributes,
-        entry,
-    );
-    finish(s, items, statements, operands, attributes)
+        index,
+    };
+    let ended = items_of(&mut p, entry);
+    finish(&mut p, ended)
 }
 
 // A well-formed text within the limit. Of an index only what the text can need is laid out: none where it is short, else links for a statement to every six bytes, which is the
 // fewest that one has.
 fn read_checked(
-    text: &[u8],
+    text: Text,
     items: &mut [u32],
     statements: &mut [u32],
     operands: &mut [u32],
     attributes: &mut [u32],
     entry: Entry,
-) -> Answer
-    requires { length text.now ≤ 65536 }
-    ensures { Ends (outcome (items_rule entry (start_of text.now (lent items.old statements.old operands.old attributes.old)))) items.old statements.old operands.old attributes.old result items.new statements.new operands.new attributes.new }
+) -> Result<Counts, Refusal>
+    ensures { Ends (outcome (items_rule entry (start_of text.entry.bytes.now (lent items.old statements.old operands.old attributes.old)))) items.old statements.old operands.old attributes.old (read_answer result) items.new statements.new operands.new attributes.new }
 {
-    if text.len() <= 512 {
+    if text.bytes.len() <= 512 {
         let mut index: [u16; 0] = [0; 0];
         return read_indexed(
-            text, items, statements, &mut index, operands, attributes, entry,
+            text, items, statements, operands, attributes, &mut index, entry,
         );
     }
-    if text.len() <= 8192 {
+    if text.bytes.len() <= 8192 {
         let mut index: [u16; 2391] = [0; 2391];
         return read_indexed(
-            text, items, statements, &mut index, operands, attributes, entry,
+            text, items, statements, operands, attributes, &mut index, entry,
         );
     }
     let mut index: [u16; 11948] = [0; 11948];
     read_indexed(
-        text, items, statements, &mut index, operands, attributes, entry,
+        text, items, statements, operands, attributes, &mut index, entry,
     )
 }

@@ -1,40 +1,48 @@
 // The public calls for C, as include/peldarox.h has them: a slice is a pointer and a count of elements, a report is six words of 64 bits.
 ghost use Rattle.std.specs.Prelude.{◌≡◌};
-ghost use Rattle.rules.specs.Answers.{report_of, Reports};
+ghost use Rattle.rules.specs.Answers.{report_of, refusal_report, Reports};
+ghost use Rattle.rules.specs.Results.{number_of, read_answer, print_answer};
 ghost use Rattle.rules.specs.Prints.{PrintReports, name_part, name_report};
 ghost use Rattle.rules.specs.WellFormed.{counts};
 
 use peldarox::{read_left_hand_sides, read_replacements, read_right_hand_sides};
 use prints::{name_part, print};
-use rules::{Answer, Entry};
+use rules::{Counts, Entry, Refusal};
 
-// An answer as six words: number, place, counts of items, statements, operands, attributes.
-fn tell(answer: Answer, report: &mut [u64; 6])
-    ensures { report.new ≡ report_of answer }
+// A read as six words: number, place, counts of items, statements, operands, attributes.
+#[tactic(auto, unfolding(rules::specs::Answers::report_of))]
+fn tell_read(read: Result<Counts, Refusal>, report: &mut [u64; 6])
+    ensures { report.new ≡ report_of (read_answer read) }
 {
-    match answer {
-        Answer::Read {
-            items,
-            statements,
-            operands,
-            attributes,
-        } => {
-            *report = [
-                0,
-                0,
-                items as u64,
-                statements as u64,
-                operands as u64,
-                attributes as u64,
-            ];
-        }
-        Answer::Printed(n) => {
-            *report = [0, n, 0, 0, 0, 0];
-        }
-        Answer::Refused { number, place } => {
-            *report = [number as u64, place, 0, 0, 0, 0];
-        }
-    }
+    *report = match read {
+        Ok(rows) => [
+            0,
+            0,
+            rows.items.into(),
+            rows.statements.into(),
+            rows.operands.into(),
+            rows.attributes.into(),
+        ],
+        Err(refusal) => refused(refusal),
+    };
+}
+
+// A print as six words: number, bytes written or place.
+#[tactic(auto, unfolding(rules::specs::Answers::report_of))]
+fn tell_print(printed: Result<u64, Refusal>, report: &mut [u64; 6])
+    ensures { report.new ≡ report_of (print_answer printed) }
+{
+    *report = match printed {
+        Ok(n) => [0, n, 0, 0, 0, 0],
+        Err(refusal) => refused(refusal),
+    };
+}
+
+// A refusal as six words: number, place.
+fn refused(refusal: Refusal) -> [u64; 6]
+    ensures { result ≡ refusal_report (number_of refusal.reason) refusal.place }
+{
+    [refusal.reason.number().into(), refusal.place, 0, 0, 0, 0]
 }
 
 #[unsafe(no_mangle)]
@@ -48,7 +56,7 @@ pub extern "C" fn peldarox_read_replacements(
 )
     ensures { Reports Entry.Replacements text.now items.old statements.old operands.old attributes.old report.new items.new statements.new operands.new attributes.new }
 {
-    tell(
+    tell_read(
         read_replacements(text, items, statements, operands, attributes),
         report,
     );
@@ -65,7 +73,7 @@ pub extern "C" fn peldarox_read_left_hand_sides(
 )
     ensures { Reports Entry.LeftHandSides text.now items.old statements.old operands.old attributes.old report.new items.new statements.new operands.new attributes.new }
 {
-    tell(
+    tell_read(
         read_left_hand_sides(text, items, statements, operands, attributes),
         report,
     );
@@ -82,7 +90,7 @@ pub extern "C" fn peldarox_read_right_hand_sides(
 )
     ensures { Reports Entry.RightHandSides text.now items.old statements.old operands.old attributes.old report.new items.new statements.new operands.new attributes.new }
 {
-    tell(
+    tell_read(
         read_right_hand_sides(text, items, statements, operands, attributes),
         report,
     );
@@ -105,7 +113,7 @@ pub extern "C" fn peldarox_print(
 )
     ensures { PrintReports text.now items.now statements.now operands.now attributes.now (counts item_count statement_count operand_count attribute_count) work.old output.old report.new work.new output.new }
 {
-    tell(
+    tell_print(
         print(
             text,
             items,

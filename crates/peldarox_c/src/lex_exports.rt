@@ -3,7 +3,7 @@ ghost use Rattle.std.specs.Prelude.{◌≡◌};
 ghost use Rattle.rules.specs.Streamed.{lex_report_of};
 ghost use Rattle.stream.specs.Words.{nothing, too_few, Starts, Parts, end_report};
 
-use rules::LexReport;
+use rules::{LexRefusal, LexReport};
 use stream::Stream;
 use stream::words::{WORDS, keep, state_of};
 
@@ -11,7 +11,7 @@ use stream::words::{WORDS, keep, state_of};
 fn tell_nothing(report: &mut [u64; 8])
     ensures { report.new ≡ nothing }
 {
-    *report = [0, 0, 0, 0, 0, 0, 0, 0];
+    *report = [0; 8];
 }
 
 // The state has too few words: 9, and how many it needs.
@@ -21,11 +21,25 @@ fn tell_too_few(report: &mut [u64; 8])
     *report = [9, 14, 0, 0, 0, 0, 0, 0];
 }
 
-// A report as eight words: number, place, how many tokens.
+// A report as eight words: number and place, 0 where nothing is refused, and how many tokens.
+#[tactic(auto, unfolding(rules::specs::Streamed::lex_report_of))]
 fn tell_lexed(r: LexReport, report: &mut [u64; 8])
     ensures { report.new ≡ lex_report_of r }
 {
-    *report = [r.number as u64, r.place, r.tokens as u64, 0, 0, 0, 0, 0];
+    let told = r.refusal.unwrap_or(LexRefusal {
+        number: 0,
+        place: 0,
+    });
+    *report = [
+        told.number.into(),
+        told.place,
+        r.tokens.into(),
+        0,
+        0,
+        0,
+        0,
+        0,
+    ];
 }
 
 #[unsafe(no_mangle)]

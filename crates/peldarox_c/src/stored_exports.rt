@@ -1,52 +1,57 @@
 // The calls for rules on disk, for C, as include/peldarox.h has them: a slice is a pointer and a count of elements, a report is eight words of 64 bits.
-ghost use Rattle.std.specs.Prelude.{◌≡◌};
+ghost use Rattle.std.specs.Prelude.{◌≡◌, [], ◌∷◌};
 ghost use Rattle.rules.specs.Stored.{store_report, load_report, StoreReports, LoadReports};
+ghost use Rattle.rules.specs.Results.{number_of, store_answer, load_answer};
 ghost use Rattle.rules.specs.WellFormed.{counts};
 
-use rules::{LoadAnswer, StoreAnswer};
+use rules::{Loaded, Refusal};
 use store::{load, store};
 
-// A store's answer as eight words: number, bytes written.
-fn tell_store(answer: StoreAnswer, report: &mut [u64; 8])
-    ensures { report.new ≡ store_report answer }
+// A store as eight words: number, bytes written or place.
+#[tactic(auto, unfolding(rules::specs::Stored::store_report))]
+fn tell_store(stored: Result<u64, Refusal>, report: &mut [u64; 8])
+    ensures { report.new ≡ store_report (store_answer stored) }
 {
-    match answer {
-        StoreAnswer::Stored(n) => {
-            *report = [0, n, 0, 0, 0, 0, 0, 0];
-        }
-        StoreAnswer::Refused { number, place } => {
-            *report = [number as u64, place, 0, 0, 0, 0, 0, 0];
-        }
-    }
+    *report = match stored {
+        Ok(n) => [0, n, 0, 0, 0, 0, 0, 0],
+        Err(refusal) => refused(refusal),
+    };
 }
 
-// A load's answer as eight words: number, bytes of text, counts of items, statements, operands, attributes.
-fn tell_load(answer: LoadAnswer, report: &mut [u64; 8])
-    ensures { report.new ≡ load_report answer }
+// A load as eight words: number, bytes of text or place, counts of items, statements, operands, attributes.
+#[tactic(auto, unfolding(rules::specs::Stored::load_report))]
+fn tell_load(loaded: Result<Loaded, Refusal>, report: &mut [u64; 8])
+    ensures { report.new ≡ load_report (load_answer loaded) }
 {
-    match answer {
-        LoadAnswer::Loaded {
-            text,
-            items,
-            statements,
-            operands,
-            attributes,
-        } => {
-            *report = [
-                0,
-                text,
-                items as u64,
-                statements as u64,
-                operands as u64,
-                attributes as u64,
-                0,
-                0,
-            ];
-        }
-        LoadAnswer::Refused { number, place } => {
-            *report = [number as u64, place, 0, 0, 0, 0, 0, 0];
-        }
-    }
+    *report = match loaded {
+        Ok(l) => [
+            0,
+            l.text,
+            l.rows.items.into(),
+            l.rows.statements.into(),
+            l.rows.operands.into(),
+            l.rows.attributes.into(),
+            0,
+            0,
+        ],
+        Err(refusal) => refused(refusal),
+    };
+}
+
+// A refusal as eight words: number, place.
+fn refused(refusal: Refusal) -> [u64; 8]
+    ensures { result ≡ number_of refusal.reason ∷ refusal.place ∷ 0 ∷ 0 ∷ 0 ∷ 0 ∷ 0 ∷ 0 ∷ [] }
+{
+    [
+        refusal.reason.number().into(),
+        refusal.place,
+        0,
+        0,
+        0,
+        0,
+        0,
+        0,
+    ]
 }
 
 #[unsafe(no_mangle)]

@@ -1,5 +1,4 @@
 -- Laws that belong to no one function. They assume nothing.
-pub mod Chains
 pub mod Bounds
 pub mod Wholes
 pub mod Seen

@@ -9,8 +9,8 @@ use native.Mathlib.Decide.{dec_lt}
 use lib.Dec.{ltb}
 use lib.ListN.{length}
 use borrow.Author.Tests.{lt-ltb, le-ltb}
-use Rattle.rules.specs.declared.Answer.{Answer}
-use Rattle.rules.specs.declared.Answer.TheVariants.{Read, Printed, Refused}
+use Rattle.rules.specs.Answer.{Answer}
+use Rattle.rules.specs.Answer.{Read, Printed, Refused}
 use Rattle.rules.specs.Prints.{Print, malformed, more_words, more_bytes, whole, words_needed, print_of, fitting, printing, print_answer}
 use Rattle.rules.specs.WellFormed.{Counts, well_formed}
 use Rattle.laws.proofs.Cases.{by_cases}

@@ -3,28 +3,29 @@
 use mathlib.Core.Path.{◌≡◌, refl, sym, ap, ◌∙◌, subst}
 use mathlib.Core.Bool.{true}
 use mathlib.Core.List.{List, [], ◌∷◌, ◌++◌, map}
-use Prim.Native.Nat.{ℕ, zero, suc, ◌+◌, ◌-◌, ◌*◌, ◌^◌, ◌≤◌, ◌<◌, min}
+use Prim.Native.Nat.{ℕ, zero, suc, ◌+◌, ◌-◌, ◌*◌, ◌^◌, ◌≤◌, ◌<◌}
 use native.Mathlib.Omega.{arith}
-use borrow.Rule.Slice.PartMut.{mid_of, put_mid}
 use lib.ListN.{length, length-append}
 use Rattle.rules.specs.declared.Item.{Item}
-use Rattle.rules.specs.Out.{joined, Wrote}
+use Rattle.rules.specs.Out.{joined}
 use Rattle.rules.specs.Rows.{item_at}
 use Rattle.rules.specs.View.{each, statement_of, as_closing}
 use Rattle.rules.specs.WellFormed.{consecutive, statements_owned}
 use Rattle.rules.specs.Printing.{first_closing, second_closing}
 use Rattle.rules.specs.Meaning.{All}
-use Rattle.laws.proofs.Over.{written}
-use Rattle.laws.proofs.Pieces.{start, next, stop}
+use Rattle.laws.proofs.Pieces.{start, next as one_more, stop}
 use Rattle.laws.proofs.Consecutive.{first_at, past_after, then, consecutive-le}
 use Rattle.laws.proofs.Members.{all_map, all_append}
 use Rattle.listing.specs.Listing.{Marks, none, marked}
 use Rattle.listing.specs.Work.{marks_of}
 use Rattle.listing.proofs.Steps.{ready-cleared}
-use Rattle.pieces.proofs.Chains.{Chain, chain_none, chain_whole, chain_as, chain_more, chain_done}
+use Rattle.output.specs.declared.writer.Writer.{Writer}
+use Rattle.output.specs.Writing.{largest, Writes}
+use Rattle.output.proofs.Words.{Through, begins, first, next, last, writes_as, left_as, wrote_whole}
+use Rattle.pieces.specs.declared.Source.{Source}
 use Rattle.listing.specs.Roots.{first_roots, second_roots}
 use Rattle.printer.specs.Rows.{reached, lines_of, rows_before, rows_between, item_text, items_text}
-use Rattle.printer.specs.Contract.{Prepared, Within, Own, Owned, RowsPrinted, Cleared, ItemPrinted, ItemsPrinted, Measured}
+use Rattle.printer.specs.Contract.{Prepared, PreparedFor, reached_in, lines_in, closing_in, text_in, Within, Own, Owned, RowsPrinted, Cleared, ItemPrinted, ItemsPrinted, Measured}
 use Rattle.printer.proofs.Reaching.{reached-append, reached-within, reached-few}
 use Rattle.printer.proofs.Texts.{lines_of-short, laid-joined}
 use Rattle.printer.proofs.ByKind.{first_short, second_short}
@@ -89,44 +90,54 @@ module _ (text S O A : List ℕ) (s : ℕ) (r : Item) where
       unfolding rows_before
       before-rows = ap (λ (m : Marks). reached S O s m (first_roots O r)) (sym clean₀)
 
-      pub item_begin : {b a : List ℕ} {n : ℕ} → Wrote (lines_of text S O A (reached S O s (marks_of w s) (first_roots O r))) b a n
-          → Chain (item_text text S O A s r) (first_closing (as_closing text S O A r) [] ∷ lines_of text S O A (rows_between S O s r) ∷ second_closing (as_closing text S O A r) [] ∷ []) b a n
-      item_begin x =
-          chain_whole (lines_of text S O A (rows_before S O s r))
-          (first_closing (as_closing text S O A r) [] ∷ lines_of text S O A (rows_between S O s r) ∷ second_closing (as_closing text S O A r) [] ∷ [])
-          item_pieces (omega (arith, item_short, own.counted, p.sound.few)) (written (ap (lines_of text S O A) before-rows) x)
+-- an item of a source, with no mark at first
+module _ (x : Source) (s : ℕ) (r : Item) {w : List ℕ} (p : PreparedFor x s w) (own : Own x.statements.now x.operands.now s r) (clean₀ : marks_of w s ≡ none) where
+  abbrev before : List ℕ
+  before = rows_before x.statements.now x.operands.now s r
 
-      -- once the rows before the first closing line are listed
-      module _ {w₁ b a : List ℕ} {n : ℕ} (h : RowsPrinted text S O A s (first_roots O r) w b w₁ a n) where
-        between-marks : marks_of w₁ s ≡ marked none (rows_before S O s r)
-        between-marks = h.marks ∙ ap (λ (m : Marks). marked m (reached S O s (marks_of w s) (first_roots O r))) clean₀ ∙ ap (marked none) (sym before-rows)
+  abbrev between : List ℕ
+  between = rows_between x.statements.now x.operands.now s r
 
-        between-rows : rows_between S O s r ≡ reached S O s (marks_of w₁ s) (second_roots O r)
-        unfolding rows_between
-        between-rows = ap (λ (m : Marks). reached S O s m (second_roots O r)) (sym between-marks)
+  before_as : before ≡ reached_in x s w (first_roots x.operands.now r)
+  before_as = before-rows x.text.now x.statements.now x.operands.now x.attributes.now s r p own clean₀
 
-        pub between-wrote : {c d : List ℕ} {k : ℕ} → Wrote (lines_of text S O A (reached S O s (marks_of w₁ s) (second_roots O r))) c d k → Wrote (lines_of text S O A (rows_between S O s r)) c d k
-        between-wrote x = written (ap (lines_of text S O A) between-rows) x
+  -- once the rows before the first closing line are listed
+  module _ {w₁ : List ℕ} {b a : Writer} (h : RowsPrinted x s (first_roots x.operands.now r) w b w₁ a) where
+    between-marks : marks_of w₁ s ≡ marked none before
+    between-marks = h.marks ∙ ap (λ (m : Marks). marked m (reached_in x s w (first_roots x.operands.now r))) clean₀ ∙ ap (marked none) (sym before_as)
 
-        -- once all are listed, and the marks of the item are taken away
-        pub item_printed : {w₂ w₃ c d o₀ o : List ℕ} {k m : ℕ} → RowsPrinted text S O A s (second_roots O r) w₁ c w₂ d k → Cleared r.statements w₂ w₃ → length w₃ ≡ length w
-            → Wrote (item_text text S O A s r) o₀ o m → ItemPrinted text S O A s r o₀ w₃ o m
-        item_printed {w₂} {w₃} g c long x =
-            let marks : marks_of w₂ s ≡ marked (marked none (rows_before S O s r)) (rows_between S O s r) =
-            g.marks ∙ ap (λ (m : Marks). marked m (reached S O s (marks_of w₁ s) (second_roots O r))) between-marks ∙ ap (marked (marked none (rows_before S O s r))) (sym between-rows) in
-            let none_left : marks_of w₃ s ≡ none = clean r.statements s w₂ w₃ (rows_before S O s r) (rows_between S O s r) marks before-within between-within c in
-            record {
-              wrote = x;
-              marks = none_left;
-              prepared =
-                  record {
-                    short = p.short;
-                    operands = p.operands;
-                    attributes = p.attributes;
-                    sound = p.sound;
-                    ready = ready-cleared S O s p.sound w₃ (omega (arith, p.ready.room)) none_left;
-                  };
-            }
+    between-rows : between ≡ reached_in x s w₁ (second_roots x.operands.now r)
+    unfolding rows_between
+    between-rows = ap (λ (m : Marks). reached x.statements.now x.operands.now s m (second_roots x.operands.now r)) (sym between-marks)
+
+    -- once all are listed, and the marks of the item are taken away
+    pub item_printed : {w₂ w₃ : List ℕ} {c d e : Writer} → Writes (first_closing (closing_in x r) []) a c → RowsPrinted x s (second_roots x.operands.now r) w₁ c w₂ d
+        → Writes (second_closing (closing_in x r) []) d e → Cleared r.statements w₂ w₃ → length w₃ ≡ length w → ItemPrinted x s r b w₃ e
+    item_printed {w₂} {w₃} v g u cl long =
+        let marks : marks_of w₂ s ≡ marked (marked none before) between =
+        g.marks ∙ ap (λ (m : Marks). marked m (reached_in x s w₁ (second_roots x.operands.now r))) between-marks ∙ ap (marked (marked none before)) (sym between-rows) in
+        let none_left : marks_of w₃ s ≡ none =
+        clean r.statements s w₂ w₃ before between marks
+        (before-within x.text.now x.statements.now x.operands.now x.attributes.now s r p own)
+        (between-within x.text.now x.statements.now x.operands.now x.attributes.now s r p own) cl in
+        record {
+          wrote =
+              last
+              (next
+              (next
+              (next (first (item_pieces x.text.now x.statements.now x.operands.now x.attributes.now s r) (writes_as (ap (lines_in x) before_as) h.wrote)) v)
+              (writes_as (ap (lines_in x) between-rows) g.wrote))
+              u);
+          marks = none_left;
+          prepared =
+              record {
+                short = p.short;
+                operands = p.operands;
+                attributes = p.attributes;
+                sound = p.sound;
+                ready = ready-cleared x.statements.now x.operands.now s p.sound w₃ (omega (arith, p.ready.room)) none_left;
+              };
+        }
 
 -- n items from i on
 module _ (text I S O A : List ℕ) (s : ℕ) {w : List ℕ} (p : Prepared text S O s w) where
@@ -147,43 +158,49 @@ module _ (text I S O A : List ℕ) (s : ℕ) {w : List ℕ} (p : Prepared text S
         consecutive-le x.past past l rest,
       )
 
-  pub items-start : (n : ℕ) → Owned I S O n s → {o : List ℕ} → Chain (items_text text I S O A n s) (each (λ j. item_text text S O A s (item_at I j)) 0 n) o o 0
+  pub items_short : (n : ℕ) → Owned I S O n s → length (items_text text I S O A n s) < largest
   unfolding items_text statements_owned
-  items-start n w =
-      chain_none (each (λ j. item_text text S O A s (item_at I j)) 0 n) refl
-      (omega (arith, items-short s 0 n 0 w.rows (λ j h k. w.items j (omega arith)), w.few, p.sound.few))
+  items_short n w = omega (arith, items-short s 0 n 0 w.rows (λ j h k. w.items j (omega arith)), w.few, p.sound.few)
+
+abbrev items_in : Source → List ℕ → ℕ → ℕ → List ℕ
+items_in x I n s = items_text x.text.now I x.statements.now x.operands.now x.attributes.now n s
 
 -- what the loop of put_items keeps
-pub record Going (text I S O A : List ℕ) (count s : ℕ) (w₀ o₀ w out : List ℕ) (n i : ℕ) : Type 0 where
-  pub chain : Chain (items_text text I S O A count s) (each (λ j. item_text text S O A s (item_at I j)) i (count - i)) o₀ out n
+pub record Going (x : Source) (I : List ℕ) (count s : ℕ) (w₀ : List ℕ) (o₀ : Writer) (w : List ℕ) (o : Writer) (i : ℕ) : Type 0 where
+  pub through : Through (items_in x I count s) (each (λ j. text_in x s (item_at I j)) i (count - i)) o₀ o
   pub marks : marks_of w s ≡ none
-  pub prepared : Prepared text S O s w
+  pub prepared : PreparedFor x s w
   pub long : length w ≡ length w₀
 
-module _ {text I S O A : List ℕ} {count s : ℕ} where
-  pub going_start : {w o : List ℕ} → Prepared text S O s w → marks_of w s ≡ none → Owned I S O count s → Going text I S O A count s w o w o 0 0
-  going_start p e own =
-      record { chain = chain_as (start (each (λ j. item_text text S O A s (item_at I j)) 0) count) (items-start text I S O A s p count own); marks = e; prepared = p; long = refl }
+module _ {x : Source} {I : List ℕ} {count s : ℕ} where
+  pub going_start : {w : List ℕ} (o : Writer) → PreparedFor x s w → marks_of w s ≡ none → Going x I count s w o w o 0
+  unfolding items_text
+  going_start o p e =
+      record { through = left_as (start (each (λ j. text_in x s (item_at I j)) 0) count) (begins o refl); marks = e; prepared = p; long = refl }
 
-  module _ {w₀ o₀ w out : List ℕ} {n i : ℕ} (g : Going text I S O A count s w₀ o₀ w out n i) where
-    -- item i is the next
-    pub going_item : i < count → Chain (items_text text I S O A count s) (item_text text S O A s (item_at I i) ∷ each (λ j. item_text text S O A s (item_at I j)) (i + 1) (count - (i + 1))) o₀ out n
-    going_item h = chain_as (next (each (λ j. item_text text S O A s (item_at I j)) i) i count h) g.chain
+  module _ {w₀ : List ℕ} {o₀ : Writer} {w : List ℕ} {o : Writer} {i : ℕ} (g : Going x I count s w₀ o₀ w o i) where
+    pub going_own : {r : Item} → i < count → Owned I x.statements.now x.operands.now count s → r ≡ item_at I i → Own x.statements.now x.operands.now s r
+    going_own h own e = subst (Own x.statements.now x.operands.now s) (sym e) (own.items i h)
 
-    pub going_own : {r : Item} → i < count → Owned I S O count s → r ≡ item_at I i → Own S O s r
-    going_own h own e = subst (Own S O s) (sym e) (own.items i h)
+    pub going_more : {r : Item} {w' : List ℕ} {o' : Writer} → i < count → r ≡ item_at I i → length w' ≡ length w → ItemPrinted x s r o w' o' → Going x I count s w₀ o₀ w' o' (i + 1)
+    going_more h e long q =
+        record {
+          through = next (left_as (one_more (each (λ j. text_in x s (item_at I j)) i) i count h) g.through) (writes_as (ap (text_in x s) (sym e)) q.wrote);
+          marks = q.marks;
+          prepared = q.prepared;
+          long = long ∙ g.long;
+        }
 
-    pub item_wrote : {r : Item} {b a : List ℕ} {k : ℕ} → r ≡ item_at I i → Wrote (item_text text S O A s r) b a k → Wrote (item_text text S O A s (item_at I i)) b a k
-    item_wrote e x = written (ap (item_text text S O A s) (sym e)) x
-
-    pub going_more : {r : Item} {w' last : List ℕ} {at k : ℕ} → i < count → r ≡ item_at I i → at ≡ min n (length out) → length w' ≡ length w
-        → ItemPrinted text S O A s r (mid_of at (length out - at) out) w' last k → Going text I S O A count s w₀ o₀ w' (put_mid at (length out - at) out last) (n + k) (i + 1)
-    going_more h e m long x =
-        record { chain = chain_more (going_item h) m (item_wrote e x.wrote); marks = x.marks; prepared = x.prepared; long = long ∙ g.long }
-
-    pub going_done : count ≤ i → ItemsPrinted text I S O A count s o₀ w out n
-    going_done h =
-        record { wrote = chain_done (chain_as (stop (each (λ j. item_text text S O A s (item_at I j)) i) i count h) g.chain); marks = g.marks; prepared = g.prepared }
+    pub going_done : {out : List ℕ} → count ≤ i → Owned I x.statements.now x.operands.now count s → o₀.out.now ≡ out → o₀.count ≡ 0
+        → ItemsPrinted x.text.now I x.statements.now x.operands.now x.attributes.now count s out w o.out.now o.count
+    going_done h own e z =
+        record {
+          wrote =
+              wrote_whole e z (items_short x.text.now I x.statements.now x.operands.now x.attributes.now s g.prepared count own)
+              (last (left_as (stop (each (λ j. text_in x s (item_at I j)) i) i count h) g.through));
+          marks = g.marks;
+          prepared = g.prepared;
+        }
 
 -- a print into no output measures
 pub measured : {text I S O A : List ℕ} {count s : ℕ} {w' last : List ℕ} (out : List ℕ) {n : ℕ} → ItemsPrinted text I S O A count s [] w' last n → Measured text I S O A count s out w' (last ++ out) n

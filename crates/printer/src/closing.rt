@@ -1,74 +1,32 @@
 // The closing lines of an item, by its kind.
-ghost use Rattle.std.specs.Prelude.{List, [], ℕ, ◌≤◌, length};
-ghost use Rattle.rules.specs.Out.{Wrote};
-ghost use Rattle.rules.specs.View.{as_closing};
+ghost use Rattle.std.specs.Prelude.{[], ◌≤◌};
 ghost use Rattle.rules.specs.Printing.{first_closing, second_closing};
-ghost use Rattle.pieces.specs.Bounds.{Few};
+ghost use Rattle.output.specs.Writing.{Writes};
+ghost use Rattle.printer.specs.Contract.{closing_in};
 
 use lines::closing::{put_cand, put_infer, put_result};
+use output::writer::Writer;
+use pieces::Source;
 use rules::{Item, code};
 
 // Writes an item's first closing line.
-pub fn put_first_closing(
-    text: &[u8],
-    statements: &[u32],
-    operands: &[u32],
-    attributes: &[u32],
-    item: Item,
-    out: &mut [u8],
-) -> usize
-    requires text_len_bound { length text.now ≤ 65536 }
-    requires few { Few item.operands }
-    requires few_attributes { Few item.attributes }
-    ensures { Wrote (first_closing (as_closing text.now statements.now operands.now attributes.now item) []) out.old out.new result }
+pub fn put_first_closing(source: &Source, item: Item, writer: &mut Writer)
+    requires { item.operands.first ≤ 65536 }
+    ensures { Writes (first_closing (closing_in source.now item) []) writer.old writer.new }
 {
-    if item.kind == code::INFER_RESULT {
-        return put_infer(
-            text,
-            statements,
-            attributes,
-            item.infer,
-            item.attributes,
-            out,
-        );
+    match item.kind {
+        code::INFER_RESULT => put_infer(source, item.infer, item.attributes, writer),
+        code::CANDIDATE => put_cand(source, item.operands.first, item.attributes, writer),
+        code::LEFT_HAND_SIDE => put_infer(source, item.infer, item.attributes, writer),
+        _ => put_result(source, item.operands.first, writer),
     }
-    if item.kind == code::CANDIDATE {
-        return put_cand(
-            text,
-            statements,
-            operands,
-            attributes,
-            item.operands.first,
-            item.attributes,
-            out,
-        );
-    }
-    if item.kind == code::LEFT_HAND_SIDE {
-        return put_infer(
-            text,
-            statements,
-            attributes,
-            item.infer,
-            item.attributes,
-            out,
-        );
-    }
-    put_result(text, statements, operands, item.operands.first, out)
 }
 
 // Writes the `result` behind an item's `infer`; nothing where the item has no second closing line.
-pub fn put_second_closing(
-    text: &[u8],
-    statements: &[u32],
-    operands: &[u32],
-    item: Item,
-    out: &mut [u8],
-) -> usize
-    requires { length text.now ≤ 65536 }
-    ensures { (attributes : List ℕ) → Wrote (second_closing (as_closing text.now statements.now operands.now attributes item) []) out.old out.new result }
+pub fn put_second_closing(source: &Source, item: Item, writer: &mut Writer)
+    ensures { Writes (second_closing (closing_in source.now item) []) writer.old writer.new }
 {
     if item.kind == code::INFER_RESULT {
-        return put_result(text, statements, operands, item.operands.first, out);
+        put_result(source, item.operands.first, writer);
     }
-    0
 }

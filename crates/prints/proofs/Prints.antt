@@ -8,8 +8,8 @@ use native.Mathlib.Omega.{arith}
 use lib.Dec.{ltb}
 use lib.ListN.{length, get_or, take, drop, replicate}
 use borrow.Author.Tests.{lt-ltb, le-ltb}
-use Rattle.rules.specs.declared.Answer.{Answer}
-use Rattle.rules.specs.declared.Answer.TheVariants.{Printed, Refused}
+use Rattle.rules.specs.Answer.{Answer}
+use Rattle.rules.specs.Answer.{Printed, Refused}
 use Rattle.rules.specs.Answers.{padded}
 use Rattle.rules.specs.Out.{Wrote}
 use Rattle.rules.specs.Prints.{Print, malformed, more_words, more_bytes, whole, words_needed, print_of, fitting, printing, print_answer, work_after, output_after, PrintEnds, Prints}

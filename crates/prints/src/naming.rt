@@ -9,6 +9,9 @@ use tables::rows::{code_at, name_at};
 use wellformed::sort::is_assignment;
 use wellformed::well_formed;
 
+// The place of no name.
+const NOWHERE: Span = Span { first: 0, past: 0 };
+
 // Where the name of a statement row stands; empty where the tables are not well formed, and where the row is past the count or no assignment.
 pub fn name_part(
     text: &[u8],
@@ -35,14 +38,14 @@ pub fn name_part(
         operand_count,
         attribute_count,
     ) {
-        return Span { first: 0, past: 0 };
+        return NOWHERE;
     }
     if statement_count <= row {
-        return Span { first: 0, past: 0 };
+        return NOWHERE;
     }
     let i = row as u32;
     if !is_assignment(code_at(statements, i)) {
-        return Span { first: 0, past: 0 };
+        return NOWHERE;
     }
     name_at(statements, i)
 }

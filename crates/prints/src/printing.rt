@@ -1,14 +1,16 @@
 // Prints of lent tables. Nothing is written before its length is known, and past refusal 9 every word of the work area is 0 as the call returns.
 ghost use Rattle.std.specs.Prelude.{◌≡◌, List, ℕ, length};
 ghost use Rattle.rules.specs.Prints.{PrintEnds, Prints, fitting};
+ghost use Rattle.rules.specs.Results.{print_answer};
 ghost use Rattle.rules.specs.WellFormed.{counts};
 ghost use Rattle.listing.specs.Listing.{none};
 ghost use Rattle.listing.specs.Work.{marks_of};
 ghost use Rattle.printer.specs.Contract.{Prepared, Owned};
 ghost use Rattle.printer.specs.Rows.{items_text};
 
+use pieces::Source;
 use printer::{measure, put_items};
-use rules::Answer;
+use rules::{Reason, Refusal};
 use tables::clear;
 use wellformed::well_formed;
 
@@ -23,27 +25,29 @@ fn print_items(
     rows: u32,
     work: &mut [u32],
     output: &mut [u8],
-) -> Answer
+) -> Result<u64, Refusal>
     requires owned { Owned items.now statements.now operands.now count rows }
     requires prepared { (w : List ℕ) → length w ≡ length work.old → marks_of w rows ≡ none → Prepared text.now statements.now operands.now rows w }
-    ensures { PrintEnds (fitting (items_text text.now items.now statements.now operands.now attributes.now count rows) (length output.old)) work.old output.old result work.new output.new }
+    ensures { PrintEnds (fitting (items_text text.now items.now statements.now operands.now attributes.now count rows) (length output.old)) work.old output.old (print_answer result) work.new output.new }
 {
     clear(work, 0);
-    let bytes = measure(
-        text, items, statements, operands, attributes, work, count, rows, output,
-    );
+    let source = Source {
+        text,
+        statements,
+        operands,
+        attributes,
+    };
+    let bytes = measure(&source, items, work, count, rows, output);
     if output.len() < bytes {
         clear(work, 0);
-        return Answer::Refused {
-            number: 10,
+        return Err(Refusal {
+            reason: Reason::OutputTooShort,
             place: bytes as u64,
-        };
+        });
     }
-    put_items(
-        text, items, statements, operands, attributes, work, count, rows, output,
-    );
+    put_items(&source, items, work, count, rows, output);
     clear(work, 0);
-    Answer::Printed(bytes as u64)
+    Ok(bytes as u64)
 }
 
 // Prints the items of tables with so many rows counted.
@@ -59,8 +63,8 @@ pub fn print(
     attribute_count: u64,
     work: &mut [u32],
     output: &mut [u8],
-) -> Answer
-    ensures { Prints text.now items.now statements.now operands.now attributes.now (counts item_count statement_count operand_count attribute_count) work.old output.old result work.new output.new }
+) -> Result<u64, Refusal>
+    ensures { Prints text.now items.now statements.now operands.now attributes.now (counts item_count statement_count operand_count attribute_count) work.old output.old (print_answer result) work.new output.new }
 {
     if !well_formed(
         text,
@@ -73,17 +77,17 @@ pub fn print(
         operand_count,
         attribute_count,
     ) {
-        return Answer::Refused {
-            number: 8,
+        return Err(Refusal {
+            reason: Reason::NotWellFormed,
             place: 0,
-        };
+        });
     }
     let words = 3 * statement_count + operand_count + 1;
     if (work.len() as u64) < words {
-        return Answer::Refused {
-            number: 9,
+        return Err(Refusal {
+            reason: Reason::WorkTooShort,
             place: words,
-        };
+        });
     }
     print_items(
         text,

@@ -10,16 +10,15 @@ use native.Mathlib.Omega.{arith}
 use borrow.Author.Tests.{leb-true, ltb-true, ltb-false, le-ltb}
 use lib.Dec.{leb, ltb}
 use lib.ListN.{length, replicate, drop, length-take}
-use Rattle.rules.specs.declared.Checked.{Checked}
-use Rattle.rules.specs.declared.Checked.TheVariants.{WellFormed, IllFormed}
+use Rattle.std.specs.Prelude.{Ok, Err}
 use Rattle.rules.specs.declared.Entry.{Entry}
 use Rattle.rules.specs.declared.Token.{Token}
 use Rattle.rules.specs.declared.Lexed.{Lexed}
 use Rattle.rules.specs.declared.Lexed.TheVariants.{Found, End, Refused}
 use Rattle.rules.specs.declared.Span.{Span}
-use Rattle.rules.specs.declared.Answer.{Answer}
+use Rattle.rules.specs.Answer.{Answer}
 use Rattle.rules.specs.Bytes.{inside}
-use Rattle.rules.specs.Utf8.{checked}
+use Rattle.rules.specs.Utf8.{checked, Checked, bad_at}
 use Rattle.rules.specs.Tokens.{token_at, next, onward, nth}
 use Rattle.rules.specs.Rows.{item_length, statement_length, operand_length, attribute_length, capacity, letters_of, item_at, statement_at}
 use Rattle.rules.specs.World.{Tables, Res}
@@ -107,11 +106,11 @@ module _ (e : Entry) (text I S O A : List ℕ) where
   abbrev l : Lent
   l = lent I S O A
 
-  read_whole : length text ≤ 65536 → checked text ≡ WellFormed → reading e text l ≡ outcome (R.items e (start text l))
+  read_whole : length text ≤ 65536 → checked text ≡ Ok tt → reading e text l ≡ outcome (R.items e (start text l))
   unfolding reading read_checked
   read_whole short good = rw (le-ltb 65536 (length text) short, good) refl
 
-  ill : (p : ℕ) → length text ≤ 65536 → checked text ≡ IllFormed p → reading e text l ≡ refusal 2 p
+  ill : (p : ℕ) → length text ≤ 65536 → checked text ≡ bad_at p → reading e text l ≡ refusal 2 p
   unfolding reading read_checked
   ill p short bad = rw (le-ltb 65536 (length text) short, bad) refl
 
@@ -127,7 +126,7 @@ module _ (e : Entry) (text I S O A : List ℕ) where
         rw (h.answers, i, s, o, a) x
 
     -- what is accepted leaves its rows, and zeros behind them
-    accepted_with : (t : Tables) → reading e text l ≡ accepted t → length text ≤ 65536 → checked text ≡ WellFormed → Ends (accepted t) I S O A r I' S' O' A' → ReadEnd text I S O A (report_of r) I' S' O' A'
+    accepted_with : (t : Tables) → reading e text l ≡ accepted t → length text ≤ 65536 → checked text ≡ Ok tt → Ends (accepted t) I S O A r I' S' O' A' → ReadEnd text I S O A (report_of r) I' S' O' A'
     unfolding answer_of rows_of report_of
     accepted_with t q short good h =
         let z = (accepted-says e text l t q).sized in
@@ -139,15 +138,15 @@ module _ (e : Entry) (text I S O A : List ℕ) where
         (rows_left operand_length t.operands.count O t.operands.words O' z.operands f.operands h.leaves.operands)
         (rows_left attribute_length t.attributes.count A t.attributes.words A' z.attributes f.attributes h.leaves.attributes))
 
-    well_formed_end : length text ≤ 65536 → checked text ≡ WellFormed → (w : Outcome) → reading e text l ≡ w → Ends w I S O A r I' S' O' A' → ReadEnd text I S O A (report_of r) I' S' O' A'
+    well_formed_end : length text ≤ 65536 → checked text ≡ Ok tt → (w : Outcome) → reading e text l ≡ w → Ends w I S O A r I' S' O' A' → ReadEnd text I S O A (report_of r) I' S' O' A'
     well_formed_end short good (accepted t) q h = accepted_with t q short good h
     well_formed_end short good (refusal n p) q h =
         let place = rw (sym (read_whole short good) ∙ q) at (outcome-placed e text l) in
         refused_with n p (refused n p short good place.0 place.1) h
 
     checked-end : length text ≤ 65536 → (c : Checked) → checked text ≡ c → Reads e text I S O A r I' S' O' A' → ReadEnd text I S O A (report_of r) I' S' O' A'
-    checked-end short WellFormed q h = well_formed_end short q (reading e text l) refl h
-    checked-end short (IllFormed p) q h = refused_with 2 p (ill_formed p short q (first_bad text p q)) (rw (ill p short q) at h)
+    checked-end short (Ok u) q h = well_formed_end short q (reading e text l) refl h
+    checked-end short (Err p) q h = refused_with 2 p.at (ill_formed p.at short q (first_bad text p.at q)) (rw (ill p.at short q) at h)
 
     -- Every read ends so.
     pub every-read : Reads e text I S O A r I' S' O' A' → ReadEnd text I S O A (report_of r) I' S' O' A'

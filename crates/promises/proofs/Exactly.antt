@@ -7,11 +7,11 @@ use mathlib.Core.Logic.{◌↔◌}
 use mathlib.Core.List.{List}
 use native.Mathlib.Omega.{arith}
 use lib.ListN.{length}
-use Rattle.rules.specs.declared.Checked.{Checked}
-use Rattle.rules.specs.declared.Checked.TheVariants.{WellFormed, IllFormed}
+use Rattle.std.specs.Prelude.{Ok}
 use Rattle.rules.specs.declared.Entry.{Entry}
-use Rattle.rules.specs.declared.Answer.{Answer}
-use Rattle.rules.specs.Utf8.{checked}
+use Rattle.rules.specs.Answer.{Answer}
+use Rattle.rules.specs.Utf8.{checked, Checked, bad_at}
+use Rattle.promises.proofs.FirstBad.{same_place}
 use Rattle.rules.specs.WellFormed.{Counts}
 use Rattle.rules.specs.Answers.{Reads, report_of, print_report, refusal_report}
 use Rattle.rules.specs.Prints.{words_needed, print_of, Prints}
@@ -19,11 +19,8 @@ use Rattle.promises.specs.Ends.{Placed, no_token, wrong_token, text_ended, bad_i
 use Rattle.promises.proofs.EveryCall.{every-read, every_print}
 
 -- ---- reads
-not_both : {c : Checked} {p : ℕ} → c ≡ WellFormed → c ≡ IllFormed p → ⊥
+not_both : {c : Checked} {p : ℕ} → c ≡ Ok tt → c ≡ bad_at p → ⊥
 not_both h k = let z : ◌≡◌ {A = ℕ} 0 1 = cc in omega arith
-
-same_place : {p q : ℕ} → IllFormed p ≡ IllFormed q → p ≡ q
-same_place h = cc
 
 -- the numbers of a text's faults are behind 2
 placed-number : {text : List ℕ} {n p : ℕ} → Placed text n p → 3 ≤ n
@@ -41,10 +38,10 @@ module _ {text I S O A : List ℕ} where
   ends_one (ill_formed p short bad first) = (λ q. absurd (let k : ◌≡◌ {A = ℕ} 2 1 = cc in omega arith), λ long. absurd (omega arith))
   ends_one (refused n p short good at within) = (λ q. absurd (let k : n ≡ 1 = cc in omega (arith, placed-number at)), λ long. absurd (omega arith))
 
-  ends_two : (p : ℕ) {r I' S' O' A' : List ℕ} → ReadEnd text I S O A r I' S' O' A' → (r ≡ refusal_report 2 p) ↔ ((length text ≤ 65536) × (checked text ≡ IllFormed p))
+  ends_two : (p : ℕ) {r I' S' O' A' : List ℕ} → ReadEnd text I S O A r I' S' O' A' → (r ≡ refusal_report 2 p) ↔ ((length text ≤ 65536) × (checked text ≡ bad_at p))
   ends_two p (read i s o a short good few x y z w) = (λ q. absurd (let k : ◌≡◌ {A = ℕ} 0 2 = cc in omega arith), λ bad. absurd (not_both good bad.1))
   ends_two p (too_long long) = (λ q. absurd (let k : ◌≡◌ {A = ℕ} 1 2 = cc in omega arith), λ bad. absurd (omega (arith, bad.0)))
-  ends_two p (ill_formed p₁ short bad first) = (λ q. let k : p₁ ≡ p = cc in (short, bad ∙ ap IllFormed k), λ b. ap (refusal_report 2) (same_place (sym bad ∙ b.1)))
+  ends_two p (ill_formed p₁ short bad first) = (λ q. let k : p₁ ≡ p = cc in (short, bad ∙ ap bad_at k), λ b. ap (refusal_report 2) (same_place (sym bad ∙ b.1)))
   ends_two p (refused n p₁ short good at within) = (λ q. absurd (let k : n ≡ 2 = cc in omega (arith, placed-number at)), λ bad. absurd (not_both good bad.1))
 
 module _ (e : Entry) (text I S O A : List ℕ) {r : Answer} {I' S' O' A' : List ℕ} (h : Reads e text I S O A r I' S' O' A') where
@@ -53,7 +50,7 @@ module _ (e : Entry) (text I S O A : List ℕ) {r : Answer} {I' S' O' A' : List 
   exactly_one = ends_one (every-read e text I S O A h)
 
   -- 2 at p exactly where it is not, and the first bad sequence starts at p.
-  pub exactly_two : (p : ℕ) → (report_of r ≡ refusal_report 2 p) ↔ ((length text ≤ 65536) × (checked text ≡ IllFormed p))
+  pub exactly_two : (p : ℕ) → (report_of r ≡ refusal_report 2 p) ↔ ((length text ≤ 65536) × (checked text ≡ bad_at p))
   exactly_two p = ends_two p (every-read e text I S O A h)
 
 -- ---- prints

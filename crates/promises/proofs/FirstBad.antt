@@ -10,9 +10,9 @@ use borrow.Author.Tests.{eqb-true, eqb-false, eq-eqb}
 use lib.Dec.{eqb}
 use lib.ListN.{length, take, drop, length-take}
 use Rattle.rules.specs.declared.Range.{Range}
-use Rattle.rules.specs.declared.Checked.TheVariants.{WellFormed, IllFormed}
+use Rattle.std.specs.Prelude.{Ok, Err}
 use Rattle.rules.specs.Bytes.{inside, far}
-use Rattle.rules.specs.Utf8.{sequences, lies, longest, seq_len, checked}
+use Rattle.rules.specs.Utf8.{sequences, lies, longest, seq_len, Checked, checked, bad_at}
 use Rattle.promises.specs.Sequences.{FirstBad}
 use Rattle.laws.proofs.Cases.{by_cases}
 use Rattle.laws.proofs.Spaces.{far-le}
@@ -82,14 +82,22 @@ far-cut zero (x ∷ s) l =
     let cut : seq_len (x ∷ take (far seq_len n s) s) ≡ seq_len (x ∷ s) = sequence_cut (suc (far seq_len n s)) (x ∷ s) (omega arith) (omega arith) in
     rw t (rw cut (rw t (ap suc (far-cut n s (omega arith))))))
 
-whole-checked : (s : List ℕ) → far seq_len 0 s ≡ length s → checked s ≡ WellFormed
+whole-checked : (s : List ℕ) → far seq_len 0 s ≡ length s → checked s ≡ Ok tt
 whole-checked s h = rw (eq-eqb (far seq_len 0 s) (length s) h) refl
 
-pub first_bad : (text : List ℕ) (p : ℕ) → checked text ≡ IllFormed p → FirstBad text p
+-- the place that a refusal names
+abbrev place : Checked → ℕ
+place (Ok u) = 0
+place (Err e) = e.at
+
+pub same_place : {p q : ℕ} → bad_at p ≡ bad_at q → p ≡ q
+same_place h = ap place h
+
+pub first_bad : (text : List ℕ) (p : ℕ) → checked text ≡ bad_at p → FirstBad text p
 first_bad text p =
     by_cases (eqb (far seq_len 0 text) (length text))
     (λ t. rw t (λ q. absurd (let z : ◌≡◌ {A = ℕ} 0 1 = cc in let n : ⊥ = omega arith in n)))
-    (λ t. rw t (λ q. let same : far seq_len 0 text ≡ p = cc in rw (← same) (at_far (eqb-false (far seq_len 0 text) (length text) t))))
+    (λ t. rw t (λ q. let same : far seq_len 0 text ≡ p = same_place q in rw (← same) (at_far (eqb-false (far seq_len 0 text) (length text) t))))
   where
     at_far : (far seq_len 0 text ≡ length text → ⊥) → FirstBad text (far seq_len 0 text)
     at_far ne =

@@ -10,8 +10,8 @@ use native.Mathlib.Nat.{le_trans}
 use native.Mathlib.Omega.{arith}
 use lib.ListN.{length, take, replicate, length-replicate}
 use Rattle.rules.specs.declared.Entry.{Entry}
-use Rattle.rules.specs.declared.Answer.{Answer}
-use Rattle.rules.specs.declared.Answer.TheVariants as answer
+use Rattle.rules.specs.Answer.{Answer}
+use Rattle.rules.specs.Answer as answer
 use Rattle.rules.specs.Rows.{item_length, statement_length, operand_length, attribute_length}
 use Rattle.rules.specs.Syntax.{Item}
 use Rattle.rules.specs.Meaning.{SameMeanings, All}

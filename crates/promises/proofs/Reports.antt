@@ -6,7 +6,7 @@ use mathlib.Core.List.{List}
 use Prim.Native.Nat.{ℕ}
 use lib.ListN.{length}
 use Rattle.rules.specs.declared.Entry.{Entry}
-use Rattle.rules.specs.declared.Answer.{Answer}
+use Rattle.rules.specs.Answer.{Answer}
 use Rattle.rules.specs.WellFormed.{Counts}
 use Rattle.rules.specs.Answers.{lent, reading, answer_of, report_of, Reads, Reports}
 use Rattle.rules.specs.Prints.{printing, print_answer, Prints, PrintReports}

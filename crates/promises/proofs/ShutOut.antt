@@ -7,8 +7,8 @@ use native.Mathlib.Omega.{arith}
 use lib.ListN.{length, get_or, replicate, take, length-replicate}
 use Rattle.rules.specs.declared.Entry.{Entry}
 use Rattle.rules.specs.declared.Entry.TheVariants.{Replacements, LeftHandSides, RightHandSides}
-use Rattle.rules.specs.declared.Answer.{Answer}
-use Rattle.rules.specs.declared.Answer.TheVariants as answer
+use Rattle.rules.specs.Answer.{Answer}
+use Rattle.rules.specs.Answer as answer
 use Rattle.rules.specs.Bytes.{bytes}
 use Rattle.rules.specs.Printing.{printed_all}
 use Rattle.rules.specs.WellFormed.{Counts}

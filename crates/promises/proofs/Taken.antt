@@ -7,7 +7,7 @@ use mathlib.Core.List.{List, [], ◌∷◌}
 use native.Mathlib.Omega.{arith}
 use lib.ListN.{length}
 use Rattle.rules.specs.declared.Entry.{Entry}
-use Rattle.rules.specs.declared.Answer.TheVariants as answer
+use Rattle.rules.specs.Answer as answer
 use Rattle.rules.specs.Syntax.{Statement, Closing, Item}
 use Rattle.rules.specs.Meaning.{Mem}
 use Rattle.rules.specs.Answers.{Lent, lent, accepted, answer_of}

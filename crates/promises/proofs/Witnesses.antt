@@ -6,7 +6,7 @@ use mathlib.Core.List.{List, [], ◌∷◌, ◌++◌}
 use lib.ListN.{replicate}
 use Rattle.rules.specs.declared.Entry.{Entry}
 use Rattle.rules.specs.declared.Entry.TheVariants.{Replacements, LeftHandSides, RightHandSides}
-use Rattle.rules.specs.declared.Answer.TheVariants.{Read}
+use Rattle.rules.specs.Answer.{Read}
 use Rattle.rules.specs.Bytes.{bytes, inside, digit, letter, name_byte, pattern_byte, line_byte, same}
 use Rattle.rules.specs.Utf8 as utf8
 use Rattle.rules.specs.Space as space

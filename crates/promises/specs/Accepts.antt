@@ -1,7 +1,7 @@
 -- An answer of 0 to a read, and tables that say some items.
 -- Assumes nothing.
 use Rattle.std.specs.Prelude.{ℕ, ◌≡◌, List}
-use Rattle.rules.specs.declared.Answer.{Answer}
+use Rattle.rules.specs.Answer.{Answer}
 use Rattle.rules.specs.Syntax.{Item}
 use Rattle.rules.specs.View.{items_of}
 use Rattle.rules.specs.Answers.{report_of, read_report}

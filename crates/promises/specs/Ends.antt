@@ -1,11 +1,10 @@
 -- The ways in which a call ends, by its report: a line of the table in docs/RULES.md to each, with its place and all lent memory afterwards.
 -- Assumes nothing.
-use Rattle.std.specs.Prelude.{ℕ, ◌+◌, ◌-◌, ◌*◌, ◌≤◌, ◌<◌, ◌≡◌, true, false, List, ◌++◌, length, replicate, drop}
-use Rattle.rules.specs.declared.Checked.TheVariants.{WellFormed, IllFormed}
+use Rattle.std.specs.Prelude.{ℕ, ◌+◌, ◌-◌, ◌*◌, ◌≤◌, ◌<◌, ◌≡◌, true, false, List, ◌++◌, length, replicate, drop, Ok}
 use Rattle.rules.specs.declared.Token.{Token}
 use Rattle.rules.specs.declared.Lexed.TheVariants.{Found, End, Refused}
 use Rattle.rules.specs.declared.Span.{Span}
-use Rattle.rules.specs.Utf8.{checked}
+use Rattle.rules.specs.Utf8.{checked, bad_at}
 use Rattle.rules.specs.Tokens as kind
 use Rattle.rules.specs.Tokens.{nth}
 use Rattle.rules.specs.Rows.{◌up_to◌, item_length, statement_length, operand_length, attribute_length, letters_of, statement_at}
@@ -42,15 +41,15 @@ pub data Placed (text : List ℕ) : ℕ → ℕ → Type 0 where
 
 pub data ReadEnd (text I S O A : List ℕ) : List ℕ → List ℕ → List ℕ → List ℕ → List ℕ → Type 0 where
   -- 0: so many rows, and no more of them than the text has bytes
-  read : (i s o a : ℕ) {I' S' O' A' : List ℕ} → length text ≤ 65536 → checked text ≡ WellFormed → i + s + o + a ≤ length text
+  read : (i s o a : ℕ) {I' S' O' A' : List ℕ} → length text ≤ 65536 → checked text ≡ Ok tt → i + s + o + a ≤ length text
       → RowsLeft item_length i I I' → RowsLeft statement_length s S S' → RowsLeft operand_length o O O' → RowsLeft attribute_length a A A'
       → ReadEnd text I S O A (read_report i s o a) I' S' O' A'
   -- 1: a text longer than 65,536 bytes
   too_long : 65536 < length text → ReadEnd text I S O A (refusal_report 1 65536) (cleared I) (cleared S) (cleared O) (cleared A)
   -- 2: not well-formed UTF-8, at the first byte of the first bad sequence
-  ill_formed : (p : ℕ) → length text ≤ 65536 → checked text ≡ IllFormed p → FirstBad text p → ReadEnd text I S O A (refusal_report 2 p) (cleared I) (cleared S) (cleared O) (cleared A)
+  ill_formed : (p : ℕ) → length text ≤ 65536 → checked text ≡ bad_at p → FirstBad text p → ReadEnd text I S O A (refusal_report 2 p) (cleared I) (cleared S) (cleared O) (cleared A)
   -- 3 to 7, each at its place, in the text or just past it
-  refused : (n p : ℕ) → length text ≤ 65536 → checked text ≡ WellFormed → Placed text n p → p ≤ length text → ReadEnd text I S O A (refusal_report n p) (cleared I) (cleared S) (cleared O) (cleared A)
+  refused : (n p : ℕ) → length text ≤ 65536 → checked text ≡ Ok tt → Placed text n p → p ≤ length text → ReadEnd text I S O A (refusal_report n p) (cleared I) (cleared S) (cleared O) (cleared A)
 
 module _ (text I S O A : List ℕ) (c : Counts) where
   -- ---- prints

@@ -2,7 +2,7 @@
 -- Assumes nothing.
 use Rattle.std.specs.Prelude.{ℕ, ◌≤◌, ◌≡◌, List, take}
 use Rattle.rules.specs.declared.Entry.{Entry}
-use Rattle.rules.specs.declared.Answer.{Answer}
+use Rattle.rules.specs.Answer.{Answer}
 use Rattle.rules.specs.WellFormed.{Counts}
 use Rattle.rules.specs.Answers.{Reads, report_of, print_report, refusal_report}
 use Rattle.rules.specs.Prints.{Prints}

@@ -2,7 +2,7 @@
 -- Assumes nothing.
 use Rattle.std.specs.Prelude.{ℕ, ◌*◌, ◌≤◌, ◌≡◌, List, length}
 use Rattle.rules.specs.declared.Entry.{Entry}
-use Rattle.rules.specs.declared.Answer.{Answer}
+use Rattle.rules.specs.Answer.{Answer}
 use Rattle.rules.specs.Rows.{item_length, statement_length, operand_length, attribute_length, capacity}
 use Rattle.rules.specs.Answers.{Lent, answer_of, padded, reading, report_of, refusal_report}
 

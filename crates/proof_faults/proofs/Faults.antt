@@ -8,8 +8,7 @@ use borrow.Author.Tests.{eqb-true}
 use lib.Dec.{eqb, ltb}
 use Rattle.rules.specs.declared.Spot.{Spot}
 use Rattle.rules.specs.declared.Span.{Span}
-use Rattle.rules.specs.declared.Row.{Row}
-use Rattle.rules.specs.declared.Row.TheVariants.{At, Missing}
+use Rattle.std.specs.Prelude.{Option, Some, None}
 use Rattle.rules.specs.declared.Item.{Item}
 use Rattle.rules.specs.declared.Statement.{Statement}
 use Rattle.rules.specs.declared.Operand.{Operand}
@@ -166,20 +165,20 @@ type_if_any = next look (λ t. test (eqb t.kind kind.colon) (next take (λ u. ty
 at_name : {n : ℕ} (t : Spot) → FaultAt n kind.val_name → t.kind ≡ kind.val_name → AtFault n t
 at_name {n} t f e = subst (FaultAt n) (sym e) f
 
-known-ok : (r : Row) (t : Spot) (v : World) → t.kind ≡ kind.val_name → Ends (λ a u. Unit {0}) AtFault (R.known r t v)
+known-ok : (r : Option ℕ) (t : Spot) (v : World) → t.kind ≡ kind.val_name → Ends (λ a u. Unit {0}) AtFault (R.known r t v)
 unfolding R.known
-known-ok (At r) t v e = goes r v tt
-known-ok Missing t v e = stops fault.unknown t (at_name t unknown-name e)
+known-ok (Some r) t v e = goes r v tt
+known-ok None t v e = stops fault.unknown t (at_name t unknown-name e)
 
-fresh_ok : (r : Row) (t : Spot) (v : World) → t.kind ≡ kind.val_name → Ends (λ a u. Unit {0}) AtFault (R.fresh r t v)
+fresh_ok : (r : Option ℕ) (t : Spot) (v : World) → t.kind ≡ kind.val_name → Ends (λ a u. Unit {0}) AtFault (R.fresh r t v)
 unfolding R.fresh
-fresh_ok (At r) t v e = stops fault.redefined t (at_name t redefined-name e)
-fresh_ok Missing t v e = goes tt v tt
+fresh_ok (Some r) t v e = stops fault.redefined t (at_name t redefined-name e)
+fresh_ok None t v e = goes tt v tt
 
-block-ok : (r : Row) (t : Spot) (v : World) → t.kind ≡ kind.val_name → Ends (λ a u. Unit {0}) AtFault (R.block_at r t v)
+block-ok : (r : Option ℕ) (t : Spot) (v : World) → t.kind ≡ kind.val_name → Ends (λ a u. Unit {0}) AtFault (R.block_at r t v)
 unfolding R.block_at
-block-ok (At r) t v e = arms (eqb (statement_at v.tables.statements.words r).code (keyword_code keyword.block)) (goes r v tt) (stops fault.no_block t (at_name t no_block_lem e))
-block-ok Missing t v e = stops fault.no_block t (at_name t no_block_lem e)
+block-ok (Some r) t v e = arms (eqb (statement_at v.tables.statements.words r).code (keyword_code keyword.block)) (goes r v tt) (stops fault.no_block t (at_name t no_block_lem e))
+block-ok None t v e = stops fault.no_block t (at_name t no_block_lem e)
 
 value : Ok R.value
 unfolding R.value asks

@@ -7,11 +7,11 @@ use mathlib.Core.List.{List, ◌++◌}
 use native.Mathlib.Omega.{arith}
 use lib.ListN.{length, take, drop}
 use lib.Seq.{take_at}
-use Rattle.rules.specs.declared.Answer.{Answer}
-use Rattle.rules.specs.declared.StoreAnswer.{StoreAnswer}
-use Rattle.rules.specs.declared.StoreAnswer.TheVariants.{Stored}
-use Rattle.rules.specs.declared.LoadAnswer.{LoadAnswer}
-use Rattle.rules.specs.declared.LoadAnswer.TheVariants.{Loaded, Refused}
+use Rattle.rules.specs.Answer.{Answer}
+use Rattle.rules.specs.StoreAnswer.{StoreAnswer}
+use Rattle.rules.specs.StoreAnswer.{Stored}
+use Rattle.rules.specs.LoadAnswer.{LoadAnswer}
+use Rattle.rules.specs.LoadAnswer.{Loaded, Refused}
 use Rattle.rules.specs.Answers.{padded}
 use Rattle.rules.specs.Rows.{item_length, statement_length, operand_length, attribute_length}
 use Rattle.rules.specs.WellFormed.{Counts, counts}

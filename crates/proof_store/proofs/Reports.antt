@@ -9,10 +9,10 @@ use native.Mathlib.Omega.{arith}
 use lib.Dec.{eqb, ltb}
 use lib.ListN.{length}
 use borrow.Author.Tests.{eqb-false}
-use Rattle.rules.specs.declared.StoreAnswer.{StoreAnswer}
-use Rattle.rules.specs.declared.StoreAnswer.TheVariants.{Stored}
-use Rattle.rules.specs.declared.LoadAnswer.{LoadAnswer}
-use Rattle.rules.specs.declared.LoadAnswer.TheVariants.{Loaded}
+use Rattle.rules.specs.StoreAnswer.{StoreAnswer}
+use Rattle.rules.specs.StoreAnswer.{Stored}
+use Rattle.rules.specs.LoadAnswer.{LoadAnswer}
+use Rattle.rules.specs.LoadAnswer.{Loaded}
 use Rattle.rules.specs.WellFormed.{Counts, well_formed}
 use Rattle.rules.specs.Stored.{stored, Storing, refusing, writes, fitting_file, storing, storing_answer, lengths_of, shape, Room, room, roomy, rows_all, Loading, refused, loads, accepting, content, loading, loading_answer, Stores, Loads, store_report, load_report, StoreReports, LoadReports}
 use Rattle.laws.proofs.Cases.{by_cases}

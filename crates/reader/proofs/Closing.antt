@@ -1,26 +1,20 @@
--- An item's last line: the keyword that it is told by, and the scope that ends with the item.
+-- The scope that ends with an item.
 -- Assumes nothing.
-use Prim.Native.Nat.{ℕ}
-use mathlib.Core.Path.{◌≡◌}
-use mathlib.Core.List.{List}
-use lib.Dec.{eqb}
-use Rattle.rules.specs.Reading as R
-use Rattle.rules.specs.World.{go, asks, give, scoped}
-use Rattle.tables.specs.declared.State.{State}
-use Rattle.tables.specs.Stands.{world, out, stands, run}
-use Rattle.tables.proofs.Chains as chain
-use Rattle.laws.proofs.Cases.{by_cases}
+use Rattle.std.proofs.Common.{ℕ, ◌≡◌, refl, sym, ◌∙◌, Ok, ap}
+use Rattle.rules.specs.declared.Item.{Item}
+use Rattle.rules.specs.World.{World, go, claim_item, scoped}
+use Rattle.reading.proofs.Ends.{gone, claim_item-ends}
+use Rattle.parser.specs.declared.Parser.{Parser}
+use Rattle.parser.specs.Stands.{Runs, world, end_scope}
 
-module _ (text : List ℕ) (s t : State) (I S O A : List ℕ) where
-  -- a keyword that is looked at and not taken
-  pub looked : (k : ℕ) → out t.ahead text t I S O A ≡ run (stands text s I S O A) R.lookahead → k ≡ R.keyword_at text t.ahead → out k text t I S O A ≡ run (stands text s I S O A) R.lookahead_ident
-  unfolding R.lookahead_ident asks world
-  looked k e h =
-      chain.then _ _ _ _ _ _ _ _ _ _ _ e
-      (chain.alike _ _ I S O A (give k) _ _ (chain.given _ _ I S O A k) (rw h))
+count_kept : (row : Item) (w v : World) → claim_item row w ≡ go tt v → v.tables.statements.count ≡ w.tables.statements.count
+count_kept row w v e = gone (rw e at (claim_item-ends {Q = λ u x. x.tables.statements.count ≡ w.tables.statements.count} {F = λ n t. Unit {0}} row w (λ h. refl) (λ h. tt)))
 
-module _ (text : List ℕ) (t : State) (I S O A : List ℕ) (n : ℕ) where
-  -- the scope begins anew at a row
-  pub scope_ends : stands text (record { fault = t.fault; at = t.at; ahead = t.ahead; last = t.last; scope = n; items = t.items; statements = t.statements; operands = t.operands; attributes = t.attributes }) I S O A ≡ run (stands text t I S O A) (λ w. go tt (scoped n w))
-  unfolding out run world
-  scope_ends = by_cases (eqb t.fault 0) (λ e. rw e) (λ e. rw e)
+pub scope_ends : (row : Item) (p q s : Parser) → Runs (claim_item row) p (Ok tt) q → Runs end_scope q (Ok tt) s → Runs (λ w. go (tt {0}) (scoped p.counts.statements w)) q (Ok tt) s
+unfolding end_scope world
+scope_ends row p q s x y =
+    record {
+      tells = y.tells ∙ ap (λ (n : ℕ). go (tt {0}) (scoped n (world q))) (count_kept row (world p) (world q) (sym x.tells));
+      keeps = y.keeps;
+      ready = y.ready;
+    }

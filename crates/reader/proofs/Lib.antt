@@ -1,8 +1,10 @@
 -- What the proofs share.
+pub mod Bits
 pub mod Blocks
-pub mod Counts
-pub mod Told
-pub mod Words
-pub mod AttributeRows
 pub mod Closing
+pub mod Codes
 pub mod Commas
+pub mod Firsts
+pub mod Looks
+pub mod Loops
+pub mod Words

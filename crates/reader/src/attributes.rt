@@ -1,166 +1,128 @@
 // Attributes and root attributes.
-ghost use Rattle.std.specs.Prelude.{◌≡◌, List, ℕ, ◌≤◌, ◌<◌, ◌&&◌, eqb, length};
+ghost use Rattle.std.specs.Prelude.{◌≡◌, ◌+◌};
 ghost use Rattle.rules.specs.Bytes.{bit};
 ghost use Rattle.rules.specs.Reading as R;
-ghost use Rattle.rules.specs.Rows.{◌up_to◌};
-ghost use Rattle.rules.specs.Tokens.{open_paren};
-ghost use Rattle.tables.specs.Stands.{stands, run};
+ghost use Rattle.rules.specs.Keywords.{keyword_number};
 ghost use Rattle.wide.specs.Wide.{bits};
+ghost use Rattle.parser.specs.Stands.{Runs};
+ghost use Rattle.reader.specs.Roots.{root_attribute_inner};
 
-use parser::{expect, int, int_8, keyword_at, lookahead, token};
-use rules::{Attribute, Span, Spot, Words, code, fault, keyword, kind};
-use tables::{State, claim_attribute, letters, refuse};
+use parser::{Fault, Parser, What};
+use rules::keyword::Keyword;
+use rules::{Attribute, Span, Spot, Words, code, kind};
 use wide::Wide;
 
 // No place in the text.
-fn nowhere() -> Span
-    ensures { result ≡ 0 up_to 0 }
+const NOWHERE: Span = Span { first: 0, past: 0 };
+
+// The row of an attribute that is told by its code and its pattern's place.
+fn plain(code: u32, pattern: Span) -> Attribute
+    ensures { result ≡ R.attribute_row code pattern 0 0 }
 {
-    Span { first: 0, past: 0 }
+    numbered(code, pattern, Wide::from(0), Wide::from(0))
 }
 
-// ')' and the row of an attribute, by its code, its pattern's place and its two numbers.
-fn close(
-    text: &[u8],
-    s: State,
-    attributes: &mut [u32],
-    code: u32,
-    pattern: Span,
-    low: Wide,
-    high: Wide,
-) -> State
-    requires { length text.now ≤ 65536 }
-    ensures { (I : List ℕ) (S : List ℕ) (O : List ℕ) → stands text.now result I S O attributes.new ≡ run (stands text.now s I S O attributes.old) (R.close_attribute (R.attribute_row code pattern (bits low) (bits high))) }
+// The row of an attribute, by its code, its pattern's place and its two numbers.
+fn numbered(code: u32, pattern: Span, low: Wide, high: Wide) -> Attribute
+    ensures { result ≡ R.attribute_row code pattern (bits low) (bits high) }
 {
-    let t = expect(text, s, kind::CLOSE_PAREN);
-    claim_attribute(
-        t,
-        attributes,
-        Attribute {
-            code,
-            pattern,
-            low: low.words(),
-            high: high.words(),
-        },
-    )
+    Attribute {
+        code,
+        pattern,
+        low: Words::from(low),
+        high: Words::from(high),
+    }
+}
+
+// ')' and the row of an attribute.
+#[tactic(auto, using(parser::proofs::Steps::steps), unfolding(rules::specs::Reading::close_attribute))]
+fn close(p: &mut Parser, row: Attribute) -> Result<(), Fault>
+    ensures { Runs (R.close_attribute row) p.old result p.new }
+{
+    p.expect(kind::CLOSE_PAREN)?;
+    p.claim_attribute(row)
 }
 
 // The letters behind the ten of `knownBits=`.
 fn pattern_of(t: Spot) -> Span
     ensures { result ≡ R.pattern_of t }
 {
-    let first = t.first as usize + 10;
-    let past = t.past as usize;
-    if first < past {
-        return Span {
-            first: first as u32,
-            past: t.past,
-        };
-    }
     Span {
-        first: t.past,
+        first: t.first.saturating_add(10).min(t.past),
         past: t.past,
     }
 }
 
 // What stands behind `signBits`: '=', a number of 8 bits, ')' and the row.
-fn sign_bits(text: &[u8], s: State, attributes: &mut [u32]) -> State
-    requires { length text.now ≤ 65536 }
-    ensures { (I : List ℕ) (S : List ℕ) (O : List ℕ) → stands text.now result I S O attributes.new ≡ run (stands text.now s I S O attributes.old) R.sign_bits }
+#[tactic(auto, using(parser::proofs::Steps::steps), unfolding(rules::specs::Reading::sign_bits))]
+fn sign_bits(p: &mut Parser) -> Result<(), Fault>
+    ensures { Runs R.sign_bits p.old result p.new }
 {
-    let t = expect(text, s, kind::EQ);
-    let n = int_8(text, t);
-    close(
-        text,
-        n.state,
-        attributes,
+    p.expect(kind::EQ)?;
+    let n = p.int_8()?;
+    let row = numbered(
         code::SIGN_BITS,
-        nowhere(),
-        Wide::small(n.value as u64),
-        Wide::small(0),
-    )
+        NOWHERE,
+        Wide::from(u64::from(n)),
+        Wide::from(0),
+    );
+    close(p, row)
 }
 
 // What stands behind `range`: '=', two numbers as in `[1,5)`, ')' and the row.
-fn range(text: &[u8], s: State, attributes: &mut [u32]) -> State
-    requires { length text.now ≤ 65536 }
-    ensures { (I : List ℕ) (S : List ℕ) (O : List ℕ) → stands text.now result I S O attributes.new ≡ run (stands text.now s I S O attributes.old) R.range }
+#[tactic(auto, using(parser::proofs::Steps::steps), unfolding(rules::specs::Reading::range))]
+fn range(p: &mut Parser) -> Result<(), Fault>
+    ensures { Runs R.range p.old result p.new }
 {
-    let t = expect(text, s, kind::EQ);
-    let low = int(text, expect(text, t, kind::OPEN_BRACKET));
-    let high = int(text, expect(text, low.state, kind::COMMA));
-    let u = expect(text, high.state, kind::CLOSE_PAREN);
-    close(
-        text,
-        u,
-        attributes,
-        code::RANGE,
-        nowhere(),
-        low.value,
-        high.value,
-    )
+    p.expect(kind::EQ)?;
+    p.expect(kind::OPEN_BRACKET)?;
+    let low = p.int()?;
+    p.expect(kind::COMMA)?;
+    let high = p.int()?;
+    p.expect(kind::CLOSE_PAREN)?;
+    close(p, numbered(code::RANGE, NOWHERE, low, high))
 }
 
-// An attribute that is a keyword alone.
-fn flag(text: &[u8], s: State, attributes: &mut [u32], k: u8) -> State
-    requires text_len_bound { length text.now ≤ 65536 }
-    requires k_above { 8 < k }
-    ensures { (I : List ℕ) (S : List ℕ) (O : List ℕ) → stands text.now result I S O attributes.new ≡ run (stands text.now s I S O attributes.old) (R.flag k) }
+// An attribute that is a keyword alone, by its code.
+#[tactic(auto, using(crate::proofs::Codes::flag_row), unfolding(rules::specs::Reading::flag))]
+fn flag(p: &mut Parser, code: u32) -> Result<(), Fault>
+    ensures { Runs (R.flag (code + 8)) p.old result p.new }
 {
-    close(
-        text,
-        s,
-        attributes,
-        (k - 8) as u32,
-        nowhere(),
-        Wide::small(0),
-        Wide::small(0),
-    )
+    close(p, plain(code, NOWHERE))
 }
 
-// Whether a keyword is an attribute alone: powerOfTwo, negative, nonNegative, nonZero or hasExternalUses.
-fn is_flag(k: u8) -> bool
-    ensures { result ≡ R.is_flag k }
-{
-    keyword::POWER_OF_TWO <= k && k <= keyword::HAS_EXTERNAL_USES
-}
-
-// What stands behind '(': the token t, which is the keyword k.
-fn attribute_inner(text: &[u8], s: State, attributes: &mut [u32], t: Spot, k: u8) -> State
-    requires { length text.now ≤ 65536 }
-    ensures { (I : List ℕ) (S : List ℕ) (O : List ℕ) → stands text.now result I S O attributes.new ≡ run (stands text.now s I S O attributes.old) (R.attribute_inner t k) }
+// What stands behind '(': the token t, which is the keyword k, if it is one.
+#[tactic(auto, using(crate::proofs::Codes::attribute_steps), unfolding(rules::specs::Reading::attribute_inner))]
+fn attribute_inner(p: &mut Parser, t: Spot, k: Option<Keyword>) -> Result<(), Fault>
+    ensures { Runs (R.attribute_inner t (keyword_number k)) p.old result p.new }
 {
     if t.kind == kind::KNOWN_BITS {
-        return close(
-            text,
-            s,
-            attributes,
-            code::KNOWN_BITS,
-            pattern_of(t),
-            Wide::small(0),
-            Wide::small(0),
-        );
+        return close(p, plain(code::KNOWN_BITS, pattern_of(t)));
     }
-    if is_flag(k) {
-        return flag(text, s, attributes, k);
+    match k {
+        Some(Keyword::PowerOfTwo) => flag(p, code::POWER_OF_TWO),
+        Some(Keyword::Negative) => flag(p, code::NEGATIVE),
+        Some(Keyword::NonNegative) => flag(p, code::NON_NEGATIVE),
+        Some(Keyword::NonZero) => flag(p, code::NON_ZERO),
+        Some(Keyword::HasExternalUses) => flag(p, code::HAS_EXTERNAL_USES),
+        Some(Keyword::SignBits) => sign_bits(p),
+        Some(Keyword::Range) => range(p),
+        _ => Err(Fault {
+            what: What::Token,
+            at: t,
+        }),
     }
-    if k == keyword::SIGN_BITS {
-        return sign_bits(text, s, attributes);
-    }
-    if k == keyword::RANGE {
-        return range(text, s, attributes);
-    }
-    refuse(s, fault::TOKEN, t)
 }
 
 // An attribute, in parentheses.
-fn attribute(text: &[u8], s: State, attributes: &mut [u32]) -> State
-    requires { length text.now ≤ 65536 }
-    ensures { (I : List ℕ) (S : List ℕ) (O : List ℕ) → stands text.now result I S O attributes.new ≡ run (stands text.now s I S O attributes.old) R.attribute }
+#[tactic(auto, using(parser::proofs::Steps::steps), unfolding(rules::specs::Reading::attribute, parser::specs::Stands::world))]
+fn attribute(p: &mut Parser) -> Result<(), Fault>
+    ensures { Runs R.attribute p.old result p.new }
 {
-    let t = token(text, expect(text, s, kind::OPEN_PAREN));
-    let spot = t.last;
-    attribute_inner(text, t, attributes, spot, keyword_at(text, spot))
+    p.expect(kind::OPEN_PAREN)?;
+    let t = p.token()?;
+    let k = p.keyword_at(t);
+    attribute_inner(p, t, k)
 }
 
 // Whether a letter is 0 or 1.
@@ -174,87 +136,85 @@ fn is_bit(b: u8) -> bool
 fn all_bits(s: &[u8]) -> bool
     ensures { result ≡ R.all_bits s.now }
 {
-    let mut i = 0;
-    while i < s.len() {
-        if !is_bit(s[i]) {
+    for b in s {
+        if !is_bit(*b) {
             return false;
         }
-        i += 1;
     }
     true
 }
 
 // What stands behind `demandedBits`: '=', a pattern of 0 and 1, ')' and the row.
-fn demanded_bits(text: &[u8], s: State, attributes: &mut [u32]) -> State
-    requires { length text.now ≤ 65536 }
-    ensures { (I : List ℕ) (S : List ℕ) (O : List ℕ) → stands text.now result I S O attributes.new ≡ run (stands text.now s I S O attributes.old) R.demanded_bits }
+#[tactic(auto, using(parser::proofs::Steps::steps), unfolding(rules::specs::Reading::demanded_bits, parser::specs::Stands::world))]
+fn demanded_bits(p: &mut Parser) -> Result<(), Fault>
+    ensures { Runs R.demanded_bits p.old result p.new }
 {
-    let t = expect(text, expect(text, s, kind::EQ), kind::INT);
-    let spot = t.last;
-    if all_bits(letters(text, spot.first, spot.past)) {
+    p.expect(kind::EQ)?;
+    let t = p.expect(kind::INT)?;
+    if all_bits(p.letters(t)) {
         let pattern = Span {
-            first: spot.first,
-            past: spot.past,
+            first: t.first,
+            past: t.past,
         };
-        return close(
-            text,
-            t,
-            attributes,
-            code::DEMANDED_BITS,
-            pattern,
-            Wide::small(0),
-            Wide::small(0),
-        );
+        return close(p, plain(code::DEMANDED_BITS, pattern));
     }
-    refuse(t, fault::TOKEN, spot)
+    Err(Fault {
+        what: What::Token,
+        at: t,
+    })
+}
+
+// What stands behind the '(' of a root attribute: the token t, which is the keyword k, if it is one.
+#[tactic(auto, using(parser::proofs::Steps::steps), unfolding(crate::specs::Roots::root_attribute_inner))]
+fn root_attribute_inner(p: &mut Parser, t: Spot, k: Option<Keyword>) -> Result<(), Fault>
+    ensures { Runs (root_attribute_inner t (keyword_number k)) p.old result p.new }
+{
+    match k {
+        Some(Keyword::HarvestedFromUse) => flag(p, code::HARVESTED_FROM_USE),
+        Some(Keyword::DemandedBits) => demanded_bits(p),
+        _ => Err(Fault {
+            what: What::Token,
+            at: t,
+        }),
+    }
 }
 
 // A root attribute, in parentheses: harvestedFromUse or demandedBits.
-fn root_attribute(text: &[u8], s: State, attributes: &mut [u32]) -> State
-    requires { length text.now ≤ 65536 }
-    ensures { (I : List ℕ) (S : List ℕ) (O : List ℕ) → stands text.now result I S O attributes.new ≡ run (stands text.now s I S O attributes.old) R.root_attribute }
+#[tactic(auto, using(parser::proofs::Steps::steps), unfolding(rules::specs::Reading::root_attribute, crate::specs::Roots::root_attribute_inner, parser::specs::Stands::world))]
+fn root_attribute(p: &mut Parser) -> Result<(), Fault>
+    ensures { Runs R.root_attribute p.old result p.new }
 {
-    let t = token(text, expect(text, s, kind::OPEN_PAREN));
-    let spot = t.last;
-    let k = keyword_at(text, spot);
-    if k == keyword::HARVESTED_FROM_USE {
-        return flag(text, t, attributes, k);
-    }
-    if k == keyword::DEMANDED_BITS {
-        return demanded_bits(text, t, attributes);
-    }
-    refuse(t, fault::TOKEN, spot)
+    p.expect(kind::OPEN_PAREN)?;
+    let t = p.token()?;
+    let k = p.keyword_at(t);
+    root_attribute_inner(p, t, k)
 }
 
-// Whether the reader goes on and '(' is ahead.
-fn open_paren_ahead(s: State) -> bool
-    ensures { result ≡ (eqb s.fault 0 && eqb s.ahead.kind open_paren) }
+// Whether '(' comes next.
+#[tactic(auto, unfolding(rules::specs::Reading::open_paren_ahead, parser::specs::Stands::is_ahead))]
+fn open_paren_ahead(p: &mut Parser) -> Result<bool, Fault>
+    ensures { Runs R.open_paren_ahead p.old result p.new }
 {
-    s.fault == fault::NONE && s.ahead.kind == kind::OPEN_PAREN
+    p.is_ahead(kind::OPEN_PAREN)
 }
 
-// The attributes that stand here, as many as there are.
-pub fn attributes_of(text: &[u8], s: State, attributes: &mut [u32]) -> State
-    requires { length text.now ≤ 65536 }
-    ensures { (I : List ℕ) (S : List ℕ) (O : List ℕ) → stands text.now result I S O attributes.new ≡ run (stands text.now s I S O attributes.old) R.attributes }
+// The attributes that stand here, as many as there are. This loop and its like (root attributes, statements, items) stay four: one over a rule that is handed in would be
+// longer than they are.
+pub fn attributes_of(p: &mut Parser) -> Result<(), Fault>
+    ensures { Runs R.attributes p.old result p.new }
 {
-    let mut t = lookahead(text, s);
-    while open_paren_ahead(t) {
-        t = attribute(text, t, attributes);
-        t = lookahead(text, t);
+    while open_paren_ahead(p)? {
+        attribute(p)?;
     }
-    t
+    Ok(())
 }
 
 // The root attributes that stand here, as many as there are.
-pub fn root_attributes(text: &[u8], s: State, attributes: &mut [u32]) -> State
-    requires { length text.now ≤ 65536 }
-    ensures { (I : List ℕ) (S : List ℕ) (O : List ℕ) → stands text.now result I S O attributes.new ≡ run (stands text.now s I S O attributes.old) R.root_attributes }
+pub fn root_attributes(p: &mut Parser) -> Result<(), Fault>
+    ensures { Runs R.root_attributes p.old result p.new }
 {
-    let mut t = lookahead(text, s);
-    while open_paren_ahead(t) {
-        t = root_attribute(text, t, attributes);
-        t = lookahead(text, t);
+    while open_paren_ahead(p)? {
+        root_attribute(p)?;
     }
-    t
+    Ok(())
 }

@@ -1,314 +1,213 @@
 // Items: replacements, left-hand sides and right-hand sides, up to the end of the text.
-ghost use Rattle.std.specs.Prelude.{◌≡◌, not, ◌&&◌, List, ℕ, ◌≤◌, eqb, length};
+ghost use Rattle.std.specs.Prelude.{◌≡◌, not, cond, eqb};
+ghost use Rattle.rules.specs.Keywords as word;
+ghost use Rattle.rules.specs.Keywords.{keyword_number};
 ghost use Rattle.rules.specs.Reading as R;
-ghost use Rattle.tables.specs.Stands.{out, stands, run};
-ghost use Rattle.index.specs.Ready.{Ready};
+ghost use Rattle.parser.specs.Stands.{Ready, Runs, ahead_of};
 
 use crate::attributes::root_attributes;
 use crate::operands::operand;
-use crate::statements::statements_of;
-use parser::{Number, ident, keyword_at, lookahead, names};
-use rules::{Entry, Item, Span, code, fault, keyword};
-use tables::{State, claim_item};
+use crate::statements::{since, statements_of};
+use parser::{Fault, Parser};
+use rules::keyword::Keyword;
+use rules::{Entry, Item, Span, Spot, code};
 
-// The row of an item, claimed last of all; the scope ends with it.
-fn close_item(
-    s: State,
-    items: &mut [u32],
+// What an item's row says of its last line: its kind, how many statement rows stand before its `infer` or `cand` line, and the row of the value inferred, if any.
+#[derive(Clone, Copy)]
+struct Line {
     kind: u32,
     middle: u32,
     infer: u32,
-    operands: Span,
-    attributes: Span,
-) -> State
-    ensures { (text : List ℕ) (S : List ℕ) (O : List ℕ) (A : List ℕ) → stands text result items.new S O A ≡ run (stands text s items.old S O A) (R.close_item kind middle infer operands attributes) }
+}
+
+// The row of an item, claimed last of all; the scope ends with it.
+#[tactic(auto, using(parser::proofs::Steps::steps), unfolding(rules::specs::Reading::close_item, parser::specs::Stands::world))]
+fn close_item(p: &mut Parser, line: Line, operands: Span, attributes: Span) -> Result<(), Fault>
+    ensures { Runs (R.close_item line.kind line.middle line.infer operands attributes) p.old result p.new }
 {
-    let past = s.statements;
-    let mut t = claim_item(
-        s,
-        items,
-        Item {
-            kind,
-            statements: Span {
-                first: s.scope,
-                past,
-            },
-            middle,
-            infer,
-            operands,
-            attributes,
+    let past = p.counts.statements;
+    p.claim_item(Item {
+        kind: line.kind,
+        statements: Span {
+            first: p.scope,
+            past,
         },
-    );
-    t.scope = past;
-    t
+        middle: line.middle,
+        infer: line.infer,
+        operands,
+        attributes,
+    })?;
+    p.end_scope();
+    Ok(())
 }
 
 // `infer`, a value and root attributes: the value's row.
-fn infer(text: &[u8], s: State, statements: &[u32], index: &[u16], attributes: &mut [u32]) -> Number
-    requires text_len_bound { length text.now ≤ 65536 }
-    requires ready { Ready text.now s statements.now index.now }
-    ensures { (I : List ℕ) (O : List ℕ) → out result.value text.now result.state I statements.now O attributes.new ≡ run (stands text.now s I statements.now O attributes.old) R.infer }
+#[tactic(auto, using(parser::proofs::Steps::steps), unfolding(rules::specs::Reading::infer))]
+fn infer(p: &mut Parser) -> Result<u32, Fault>
+    requires { Ready p.old }
+    ensures { Runs R.infer p.old result p.new }
 {
-    let v = names::value(text, ident(text, s, keyword::INFER), statements, index);
-    let row = v.value;
-    let t = root_attributes(text, v.state, attributes);
-    Number {
-        state: t,
-        value: row,
-    }
+    p.ident(Keyword::Infer)?;
+    let row = p.value()?;
+    root_attributes(p)?;
+    Ok(row)
 }
 
-// `result` and an operand, which close an item of a kind.
-fn result(
-    text: &[u8],
-    s: State,
-    items: &mut [u32],
-    statements: &[u32],
-    index: &[u16],
-    operands: &mut [u32],
-    kind: u32,
-    middle: u32,
-    infer: u32,
-    attributes: Span,
-) -> State
-    requires text_len_bound { length text.now ≤ 65536 }
-    requires ready { Ready text.now s statements.now index.now }
-    ensures reads { (A : List ℕ) → stands text.now result items.new statements.now operands.new A ≡ run (stands text.now s items.old statements.now operands.old A) (R.result kind middle infer attributes) }
-    ensures stays_ready { Ready text.now result statements.now index.now }
+// `result` and an operand, which close an item.
+#[tactic(auto, using(parser::proofs::Steps::steps), unfolding(rules::specs::Reading::result, parser::specs::Stands::world))]
+fn result_line(p: &mut Parser, line: Line, attributes: Span) -> Result<(), Fault>
+    requires { Ready p.old }
+    ensures { Runs (R.result line.kind line.middle line.infer attributes) p.old result p.new }
 {
-    let t = ident(text, s, keyword::RESULT);
-    let u = operand(text, t, statements, index, operands);
-    let closing = Span {
-        first: t.operands,
-        past: u.operands,
-    };
-    close_item(u, items, kind, middle, infer, closing, attributes)
+    p.ident(Keyword::Result)?;
+    let first_operand = p.counts.operands;
+    operand(p)?;
+    let operands = since(first_operand, p.counts.operands);
+    close_item(p, line, operands, attributes)
 }
 
 // `cand`, two operands and root attributes.
-fn cand(
-    text: &[u8],
-    s: State,
-    items: &mut [u32],
-    statements: &[u32],
-    index: &[u16],
-    operands: &mut [u32],
-    attributes: &mut [u32],
-    middle: u32,
-) -> State
-    requires text_len_bound { length text.now ≤ 65536 }
-    requires ready { Ready text.now s statements.now index.now }
-    ensures reads { stands text.now result items.new statements.now operands.new attributes.new ≡ run (stands text.now s items.old statements.now operands.old attributes.old) (R.cand middle) }
-    ensures stays_ready { Ready text.now result statements.now index.now }
+#[tactic(auto, using(parser::proofs::Steps::steps), unfolding(rules::specs::Reading::cand, parser::specs::Stands::world))]
+fn cand(p: &mut Parser, middle: u32) -> Result<(), Fault>
+    requires { Ready p.old }
+    ensures { Runs (R.cand middle) p.old result p.new }
 {
-    let t = ident(text, s, keyword::CAND);
-    let x = operand(text, t, statements, index, operands);
-    let y = operand(text, x, statements, index, operands);
-    let e = root_attributes(text, y, attributes);
-    let closing = Span {
-        first: t.operands,
-        past: y.operands,
+    p.ident(Keyword::Cand)?;
+    let first_operand = p.counts.operands;
+    operand(p)?;
+    operand(p)?;
+    let operands = since(first_operand, p.counts.operands);
+    let first_attribute = p.counts.attributes;
+    root_attributes(p)?;
+    let attributes = since(first_attribute, p.counts.attributes);
+    let line = Line {
+        kind: code::CANDIDATE,
+        middle,
+        infer: 0,
     };
-    let notes = Span {
-        first: y.attributes,
-        past: e.attributes,
-    };
-    close_item(e, items, code::CANDIDATE, middle, 0, closing, notes)
+    close_item(p, line, operands, attributes)
 }
 
 // An `infer` line, statements and a `result` line.
-fn infer_and_result(
-    text: &[u8],
-    s: State,
-    items: &mut [u32],
-    statements: &mut [u32],
-    index: &mut [u16],
-    operands: &mut [u32],
-    attributes: &mut [u32],
-    middle: u32,
-) -> State
-    requires text_len_bound { length text.now ≤ 65536 }
-    requires ready { Ready text.now s statements.old index.old }
-    ensures reads { stands text.now result items.new statements.new operands.new attributes.new ≡ run (stands text.now s items.old statements.old operands.old attributes.old) (R.infer_and_result middle) }
-    ensures stays_ready { Ready text.now result statements.new index.new }
+#[tactic(auto, using(parser::proofs::Steps::steps), unfolding(rules::specs::Reading::infer_and_result, parser::specs::Stands::world))]
+fn infer_and_result(p: &mut Parser, middle: u32) -> Result<(), Fault>
+    requires { Ready p.old }
+    ensures { Runs (R.infer_and_result middle) p.old result p.new }
 {
-    let v = infer(text, s, statements, index, attributes);
-    let row = v.value;
-    let t = v.state;
-    let notes = Span {
-        first: s.attributes,
-        past: t.attributes,
-    };
-    let u = statements_of(text, t, statements, index, operands, attributes);
-    result(
-        text,
-        u,
-        items,
-        statements,
-        index,
-        operands,
-        code::INFER_RESULT,
+    let first_attribute = p.counts.attributes;
+    let infer = infer(p)?;
+    let attributes = since(first_attribute, p.counts.attributes);
+    statements_of(p)?;
+    let line = Line {
+        kind: code::INFER_RESULT,
         middle,
-        row,
-        notes,
-    )
+        infer,
+    };
+    result_line(p, line, attributes)
+}
+
+// An `infer` line, statements and a `result` line, or a `cand` line, by the keyword that comes next.
+#[tactic(auto, using(parser::proofs::Steps::steps))]
+fn line_by(p: &mut Parser, middle: u32, k: Option<Keyword>) -> Result<(), Fault>
+    requires { Ready p.old }
+    ensures { Runs (cond (eqb (keyword_number k) word.infer) (R.infer_and_result middle) (R.cand middle)) p.old result p.new }
+{
+    match k {
+        Some(Keyword::Infer) => infer_and_result(p, middle),
+        _ => cand(p, middle),
+    }
 }
 
 // Statements, and either an `infer` line, statements and a `result` line, or a `cand` line.
-fn replacement(
-    text: &[u8],
-    s: State,
-    items: &mut [u32],
-    statements: &mut [u32],
-    index: &mut [u16],
-    operands: &mut [u32],
-    attributes: &mut [u32],
-) -> State
-    requires text_len_bound { length text.now ≤ 65536 }
-    requires ready { Ready text.now s statements.old index.old }
-    ensures reads { stands text.now result items.new statements.new operands.new attributes.new ≡ run (stands text.now s items.old statements.old operands.old attributes.old) R.replacement }
-    ensures stays_ready { Ready text.now result statements.new index.new }
+#[tactic(auto, using(parser::proofs::Steps::steps), unfolding(rules::specs::Reading::replacement, parser::specs::Stands::world))]
+fn replacement(p: &mut Parser) -> Result<(), Fault>
+    requires { Ready p.old }
+    ensures { Runs R.replacement p.old result p.new }
 {
-    let t = statements_of(text, s, statements, index, operands, attributes);
-    let middle = t.statements;
-    let u = lookahead(text, t);
-    let spot = u.ahead;
-    if keyword_at(text, spot) == keyword::INFER {
-        return infer_and_result(
-            text, u, items, statements, index, operands, attributes, middle,
-        );
-    }
-    cand(
-        text, u, items, statements, index, operands, attributes, middle,
-    )
+    statements_of(p)?;
+    let middle = p.counts.statements;
+    let k = p.keyword_ahead()?;
+    line_by(p, middle, k)
 }
 
 // Statements and an `infer` line.
-fn left_side(
-    text: &[u8],
-    s: State,
-    items: &mut [u32],
-    statements: &mut [u32],
-    index: &mut [u16],
-    operands: &mut [u32],
-    attributes: &mut [u32],
-) -> State
-    requires text_len_bound { length text.now ≤ 65536 }
-    requires ready { Ready text.now s statements.old index.old }
-    ensures reads { stands text.now result items.new statements.new operands.new attributes.new ≡ run (stands text.now s items.old statements.old operands.old attributes.old) R.left_side }
-    ensures stays_ready { Ready text.now result statements.new index.new }
+#[tactic(auto, using(parser::proofs::Steps::steps), unfolding(rules::specs::Reading::left_side, parser::specs::Stands::world))]
+fn left_side(p: &mut Parser) -> Result<(), Fault>
+    requires { Ready p.old }
+    ensures { Runs R.left_side p.old result p.new }
 {
-    let t = statements_of(text, s, statements, index, operands, attributes);
-    let v = infer(text, t, statements, index, attributes);
-    let row = v.value;
-    let u = v.state;
-    let closing = Span {
-        first: u.operands,
-        past: u.operands,
+    statements_of(p)?;
+    let past = p.counts.statements;
+    let first_attribute = p.counts.attributes;
+    let infer = infer(p)?;
+    let attributes = since(first_attribute, p.counts.attributes);
+    let none = p.counts.operands;
+    let operands = since(none, p.counts.operands);
+    let line = Line {
+        kind: code::LEFT_HAND_SIDE,
+        middle: past,
+        infer,
     };
-    let notes = Span {
-        first: t.attributes,
-        past: u.attributes,
-    };
-    close_item(
-        u,
-        items,
-        code::LEFT_HAND_SIDE,
-        t.statements,
-        row,
-        closing,
-        notes,
-    )
+    close_item(p, line, operands, attributes)
 }
 
 // Statements and a `result` line.
-fn right_side(
-    text: &[u8],
-    s: State,
-    items: &mut [u32],
-    statements: &mut [u32],
-    index: &mut [u16],
-    operands: &mut [u32],
-    attributes: &mut [u32],
-) -> State
-    requires text_len_bound { length text.now ≤ 65536 }
-    requires ready { Ready text.now s statements.old index.old }
-    ensures reads { stands text.now result items.new statements.new operands.new attributes.new ≡ run (stands text.now s items.old statements.old operands.old attributes.old) R.right_side }
-    ensures stays_ready { Ready text.now result statements.new index.new }
+#[tactic(auto, using(parser::proofs::Steps::steps), unfolding(rules::specs::Reading::right_side, parser::specs::Stands::world))]
+fn right_side(p: &mut Parser) -> Result<(), Fault>
+    requires { Ready p.old }
+    ensures { Runs R.right_side p.old result p.new }
 {
-    let t = statements_of(text, s, statements, index, operands, attributes);
-    let notes = Span {
-        first: t.attributes,
-        past: t.attributes,
+    statements_of(p)?;
+    let past = p.counts.statements;
+    let none = p.counts.attributes;
+    let attributes = since(none, p.counts.attributes);
+    let line = Line {
+        kind: code::RIGHT_HAND_SIDE,
+        middle: past,
+        infer: 0,
     };
-    result(
-        text,
-        t,
-        items,
-        statements,
-        index,
-        operands,
-        code::RIGHT_HAND_SIDE,
-        t.statements,
-        0,
-        notes,
-    )
+    result_line(p, line, attributes)
 }
 
 // An item of an entry point.
-fn item(
-    text: &[u8],
-    s: State,
-    items: &mut [u32],
-    statements: &mut [u32],
-    index: &mut [u16],
-    operands: &mut [u32],
-    attributes: &mut [u32],
-    entry: Entry,
-) -> State
-    requires text_len_bound { length text.now ≤ 65536 }
-    requires ready { Ready text.now s statements.old index.old }
-    ensures reads { stands text.now result items.new statements.new operands.new attributes.new ≡ run (stands text.now s items.old statements.old operands.old attributes.old) (R.item_of entry) }
-    ensures stays_ready { Ready text.now result statements.new index.new }
+#[tactic(auto, unfolding(rules::specs::Reading::item_of))]
+fn item(p: &mut Parser, entry: Entry) -> Result<(), Fault>
+    requires { Ready p.old }
+    ensures { Runs (R.item_of entry) p.old result p.new }
 {
     match entry {
-        Entry::Replacements => replacement(text, s, items, statements, index, operands, attributes),
-        Entry::LeftHandSides => left_side(text, s, items, statements, index, operands, attributes),
-        Entry::RightHandSides => right_side(
-            text, s, items, statements, index, operands, attributes,
-        ),
+        Entry::Replacements => replacement(p),
+        Entry::LeftHandSides => left_side(p),
+        Entry::RightHandSides => right_side(p),
     }
 }
 
-// Whether the reader goes on and anything is ahead.
-fn item_ahead(s: State) -> bool
-    ensures { result ≡ (eqb s.fault 0 && not (eqb s.ahead.kind 0)) }
+// Whether there is a token.
+fn is_token(ahead: Option<Spot>) -> bool
+    ensures { result ≡ not (eqb (ahead_of ahead).kind 0) }
 {
-    s.fault == fault::NONE && s.ahead.kind != 0
+    match ahead {
+        Some(t) => t.kind != 0,
+        None => false,
+    }
+}
+
+// Whether anything comes next.
+#[tactic(auto, using(parser::proofs::Steps::steps), unfolding(rules::specs::Reading::item_ahead))]
+fn item_ahead(p: &mut Parser) -> Result<bool, Fault>
+    ensures { Runs R.item_ahead p.old result p.new }
+{
+    let ahead = p.lookahead()?;
+    Ok(is_token(ahead))
 }
 
 // Items of an entry point up to the end of the text.
-pub fn items_of(
-    text: &[u8],
-    s: State,
-    items: &mut [u32],
-    statements: &mut [u32],
-    index: &mut [u16],
-    operands: &mut [u32],
-    attributes: &mut [u32],
-    entry: Entry,
-) -> State
-    requires text_len_bound { length text.now ≤ 65536 }
-    requires ready { Ready text.now s statements.old index.old }
-    ensures reads { stands text.now result items.new statements.new operands.new attributes.new ≡ run (stands text.now s items.old statements.old operands.old attributes.old) (R.items entry) }
-    ensures stays_ready { Ready text.now result statements.new index.new }
+pub fn items_of(p: &mut Parser, entry: Entry) -> Result<(), Fault>
+    requires { Ready p.old }
+    ensures { Runs (R.items entry) p.old result p.new }
 {
-    let mut t = lookahead(text, s);
-    while item_ahead(t) {
-        t = item(
-            text, t, items, statements, index, operands, attributes, entry,
-        );
-        t = lookahead(text, t);
+    while item_ahead(p)? {
+        item(p, entry)?;
     }
-    t
+    Ok(())
 }

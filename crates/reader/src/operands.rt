@@ -1,160 +1,109 @@
 // Operands: values and constants.
-ghost use Rattle.std.specs.Prelude.{◌≡◌, List, ℕ, ◌≤◌, length};
+ghost use Rattle.std.specs.Prelude.{◌≡◌};
 ghost use Rattle.rules.specs.Reading as R;
-ghost use Rattle.tables.specs.Stands.{stands, run};
-ghost use Rattle.reader.specs.Commas.{comma_if, operands_behind};
-ghost use Rattle.index.specs.Ready.{Ready};
+ghost use Rattle.parser.specs.Stands.{Ready, Runs};
+ghost use Rattle.reader.specs.Commas.{comma_if, operands_behind, wanted};
 
-use parser::{expect, int, lookahead, names, type_if_any};
-use rules::{Operand, Row, Words, code, fault, kind};
-use tables::{State, claim_operand, refuse};
+use parser::{Fault, Parser};
+use rules::{Operand, Words, code, kind};
+use wide::Wide;
 
 // An integer and a type, if any.
-fn constant(text: &[u8], s: State, operands: &mut [u32]) -> State
-    requires { length text.now ≤ 65536 }
-    ensures { (I : List ℕ) (S : List ℕ) (A : List ℕ) → stands text.now result I S operands.new A ≡ run (stands text.now s I S operands.old A) R.constant }
+#[tactic(auto, using(parser::proofs::Steps::steps), unfolding(rules::specs::Reading::constant))]
+fn constant(p: &mut Parser) -> Result<(), Fault>
+    ensures { Runs R.constant p.old result p.new }
 {
-    let n = int(text, s);
-    let t = type_if_any(text, n.state);
-    claim_operand(
-        t.state,
-        operands,
-        Operand {
-            code: code::CONSTANT,
-            row: 0,
-            width: t.value,
-            bits: n.value.words(),
-        },
-    )
+    let n = p.int()?;
+    let width = p.type_if_any()?;
+    p.claim_operand(Operand {
+        code: code::CONSTANT,
+        row: 0,
+        width,
+        bits: Words::from(n),
+    })
 }
 
 // A name in scope.
-fn named(text: &[u8], s: State, statements: &[u32], index: &[u16], operands: &mut [u32]) -> State
-    requires text_len_bound { length text.now ≤ 65536 }
-    requires ready { Ready text.now s statements.now index.now }
-    ensures { (I : List ℕ) (A : List ℕ) → stands text.now result I statements.now operands.new A ≡ run (stands text.now s I statements.now operands.old A) R.named }
+#[tactic(auto, using(parser::proofs::Steps::steps), unfolding(rules::specs::Reading::named))]
+fn named(p: &mut Parser) -> Result<(), Fault>
+    requires { Ready p.old }
+    ensures { Runs R.named p.old result p.new }
 {
-    let t = expect(text, s, kind::VAL_NAME);
-    let spot = t.last;
-    match names::in_scope(text, t, statements, index, spot) {
-        Row::At(row) => claim_operand(
-            t,
-            operands,
-            Operand {
-                code: code::VALUE,
-                row,
-                width: 0,
-                bits: Words {
-                    a: 0,
-                    b: 0,
-                    c: 0,
-                    d: 0,
-                },
-            },
-        ),
-        Row::Missing => refuse(t, fault::UNKNOWN, spot),
-    }
+    let row = p.value()?;
+    p.claim_operand(Operand {
+        code: code::VALUE,
+        row,
+        width: 0,
+        bits: Words::from(Wide::from(0)),
+    })
 }
 
 // A name or a constant, by the token ahead.
-fn named_or_constant(
-    text: &[u8],
-    s: State,
-    statements: &[u32],
-    index: &[u16],
-    operands: &mut [u32],
-) -> State
-    requires text_len_bound { length text.now ≤ 65536 }
-    requires ready { Ready text.now s statements.now index.now }
-    ensures { (I : List ℕ) (A : List ℕ) → stands text.now result I statements.now operands.new A ≡ run (stands text.now s I statements.now operands.old A) R.operand }
+#[tactic(auto, using(crate::proofs::Looks::look_steps), unfolding(rules::specs::Reading::operand, parser::specs::Stands::is_ahead))]
+fn named_or_constant(p: &mut Parser) -> Result<(), Fault>
+    requires { Ready p.old }
+    ensures { Runs R.operand p.old result p.new }
 {
-    let t = lookahead(text, s);
-    if t.ahead.kind == kind::VAL_NAME {
-        return named(text, t, statements, index, operands);
+    if p.is_ahead(kind::VAL_NAME)? {
+        return named(p);
     }
-    constant(text, t, operands)
+    constant(p)
 }
 
 // A comma, where one is wanted.
-fn comma_if(text: &[u8], s: State, wanted: bool) -> State
-    requires { length text.now ≤ 65536 }
-    ensures { (I : List ℕ) (S : List ℕ) (O : List ℕ) (A : List ℕ) → stands text.now result I S O A ≡ run (stands text.now s I S O A) (comma_if wanted) }
+#[tactic(auto, using(parser::proofs::Steps::steps), unfolding(crate::specs::Commas::comma_if))]
+fn comma_if(p: &mut Parser, wanted: bool) -> Result<(), Fault>
+    ensures { Runs (comma_if wanted) p.old result p.new }
 {
     if wanted {
-        return expect(text, s, kind::COMMA);
+        p.expect(kind::COMMA)?;
     }
-    s
+    Ok(())
 }
 
-// n operands with commas between them, and one before the first where `comma` says so; none further is looked for once something is at fault.
+// Whether a comma stands before operand i.
+fn is_behind(comma: bool, i: u32) -> bool
+    ensures { result ≡ wanted comma i }
+{
+    comma || 0 < i
+}
+
+// n operands with commas between them, and one before the first where `comma` says so.
 // Every operand is read here, in one place, so that reading one is folded into the loop.
-fn operands_behind(
-    text: &[u8],
-    s: State,
-    statements: &[u32],
-    index: &[u16],
-    operands: &mut [u32],
-    n: u32,
-    comma: bool,
-) -> State
-    requires text_len_bound { length text.now ≤ 65536 }
-    requires ready { Ready text.now s statements.now index.now }
-    ensures { (I : List ℕ) (A : List ℕ) → stands text.now result I statements.now operands.new A ≡ run (stands text.now s I statements.now operands.old A) (operands_behind comma n) }
+fn operands_behind(p: &mut Parser, n: u32, comma: bool) -> Result<(), Fault>
+    requires { Ready p.old }
+    ensures { Runs (operands_behind comma n) p.old result p.new }
 {
-    let mut t = s;
-    let mut left = n;
-    let mut behind = comma;
-    while 0 < left && t.fault == fault::NONE {
-        t = comma_if(text, t, behind);
-        t = named_or_constant(text, t, statements, index, operands);
-        behind = true;
-        left -= 1;
+    for i in 0..n {
+        let behind = is_behind(comma, i);
+        comma_if(p, behind)?;
+        named_or_constant(p)?;
     }
-    t
+    Ok(())
 }
 
-pub fn operand(
-    text: &[u8],
-    s: State,
-    statements: &[u32],
-    index: &[u16],
-    operands: &mut [u32],
-) -> State
-    requires text_len_bound { length text.now ≤ 65536 }
-    requires ready { Ready text.now s statements.now index.now }
-    ensures { (I : List ℕ) (A : List ℕ) → stands text.now result I statements.now operands.new A ≡ run (stands text.now s I statements.now operands.old A) R.operand }
+#[tactic(auto, using(crate::proofs::Commas::one_operand))]
+pub fn operand(p: &mut Parser) -> Result<(), Fault>
+    requires { Ready p.old }
+    ensures { Runs R.operand p.old result p.new }
 {
-    operands_behind(text, s, statements, index, operands, 1, false)
+    operands_behind(p, 1, false)
 }
 
 // n operands, each behind a comma.
-pub fn further_operands(
-    text: &[u8],
-    s: State,
-    statements: &[u32],
-    index: &[u16],
-    operands: &mut [u32],
-    n: u32,
-) -> State
-    requires text_len_bound { length text.now ≤ 65536 }
-    requires ready { Ready text.now s statements.now index.now }
-    ensures { (I : List ℕ) (A : List ℕ) → stands text.now result I statements.now operands.new A ≡ run (stands text.now s I statements.now operands.old A) (R.further_operands n) }
+#[tactic(auto, using(crate::proofs::Commas::all_behind))]
+pub fn further_operands(p: &mut Parser, n: u32) -> Result<(), Fault>
+    requires { Ready p.old }
+    ensures { Runs (R.further_operands n) p.old result p.new }
 {
-    operands_behind(text, s, statements, index, operands, n, true)
+    operands_behind(p, n, true)
 }
 
 // n operands with commas between them.
-pub fn operands_of(
-    text: &[u8],
-    s: State,
-    statements: &[u32],
-    index: &[u16],
-    operands: &mut [u32],
-    n: u32,
-) -> State
-    requires text_len_bound { length text.now ≤ 65536 }
-    requires ready { Ready text.now s statements.now index.now }
-    ensures { (I : List ℕ) (A : List ℕ) → stands text.now result I statements.now operands.new A ≡ run (stands text.now s I statements.now operands.old A) (R.operands n) }
+#[tactic(auto, using(crate::proofs::Commas::all_between))]
+pub fn operands_of(p: &mut Parser, n: u32) -> Result<(), Fault>
+    requires { Ready p.old }
+    ensures { Runs (R.operands n) p.old result p.new }
 {
-    operands_behind(text, s, statements, index, operands, n, false)
+    operands_behind(p, n, false)
 }

@@ -1,156 +1,115 @@
 // Right sides of assignments.
-ghost use Rattle.std.specs.Prelude.{◌≡◌, List, ℕ, ◌≤◌, ◌<◌, length};
-ghost use Rattle.rules.specs.World.{give};
+ghost use Rattle.std.specs.Prelude.{◌≡◌, ◌≤◌, ◌-◌};
+ghost use Rattle.rules.specs.Keywords.{keyword_number};
 ghost use Rattle.rules.specs.Reading as R;
-ghost use Rattle.tables.specs.Stands.{out, stands, run};
-ghost use Rattle.index.specs.Ready.{Ready};
+ghost use Rattle.parser.specs.Stands.{Ready, Runs, ahead_of};
 
 use crate::operands::{further_operands, operands_of};
-use instructions::arity;
-use parser::{instruction_at, int_32, keyword_at, lookahead, names, token};
-use rules::{Side, Spot, code, fault, keyword};
-use tables::rows::number_at;
-use tables::{State, refuse};
+use instructions::Instruction;
+use parser::{Fault, Parser, What};
+use rules::keyword::Keyword;
+use rules::{Side, Spot, code};
 
-// A state and a right side.
-#[derive(Clone, Copy)]
-pub struct Sided {
-    pub state: State,
-    pub side: Side,
-}
-
-fn with_side(state: State, code: u32, number: u32, block: u32) -> Sided
-    ensures { (text : List ℕ) (I : List ℕ) (S : List ℕ) (O : List ℕ) (A : List ℕ) → out result.side text result.state I S O A ≡ run (stands text state I S O A) (give (R.side code number block)) }
+// A right side that is told by its code alone.
+pub(crate) fn plain(code: u32) -> Side
+    ensures { result ≡ R.side code 0 0 }
 {
-    Sided {
-        state,
-        side: Side {
-            code,
-            number,
-            block,
-        },
+    Side {
+        code,
+        number: 0,
+        block: 0,
     }
 }
 
-// A keyword alone: `var`, `reservedinst`, `reservedconst`.
-fn plain_side(text: &[u8], s: State, k: u8) -> Sided
-    requires { length text.now ≤ 65536 }
-    ensures { (I : List ℕ) (S : List ℕ) (O : List ℕ) (A : List ℕ) → out result.side text.now result.state I S O A ≡ run (stands text.now s I S O A) (R.plain_side k) }
+// A keyword alone, by its code: `var`, `reservedinst`, `reservedconst`.
+#[tactic(auto, using(parser::proofs::Steps::steps), unfolding(rules::specs::Reading::plain_side))]
+fn plain_side(p: &mut Parser, code: u32) -> Result<Side, Fault>
+    requires { 60 ≤ code }
+    ensures { Runs (R.plain_side (code - 60)) p.old result p.new }
 {
-    with_side(token(text, s), k as u32 + code::VAR, 0, 0)
+    p.token()?;
+    Ok(plain(code))
 }
 
-fn block_side(text: &[u8], s: State) -> Sided
-    requires { length text.now ≤ 65536 }
-    ensures { (I : List ℕ) (S : List ℕ) (O : List ℕ) (A : List ℕ) → out result.side text.now result.state I S O A ≡ run (stands text.now s I S O A) R.block_side }
+#[tactic(auto, using(parser::proofs::Steps::steps), unfolding(rules::specs::Reading::block_side))]
+fn block_side(p: &mut Parser) -> Result<Side, Fault>
+    ensures { Runs R.block_side p.old result p.new }
 {
-    let n = int_32(text, token(text, s));
-    with_side(n.state, code::BLOCK, n.value, 0)
+    p.token()?;
+    let number = p.int_32()?;
+    Ok(Side {
+        code: code::BLOCK,
+        number,
+        block: 0,
+    })
 }
 
-fn phi_side(text: &[u8], s: State, statements: &[u32], index: &[u16], operands: &mut [u32]) -> Sided
-    requires text_len_bound { length text.now ≤ 65536 }
-    requires ready { Ready text.now s statements.now index.now }
-    ensures { (I : List ℕ) (A : List ℕ) → out result.side text.now result.state I statements.now operands.new A ≡ run (stands text.now s I statements.now operands.old A) R.phi_side }
+#[tactic(auto, using(crate::proofs::Blocks::phi_steps), unfolding(rules::specs::Reading::phi_side, parser::specs::Stands::world))]
+fn phi_side(p: &mut Parser) -> Result<Side, Fault>
+    requires { Ready p.old }
+    ensures { Runs R.phi_side p.old result p.new }
 {
-    let b = names::block(text, token(text, s), statements, index);
-    let row = b.value;
-    let t = further_operands(
-        text,
-        b.state,
-        statements,
-        index,
-        operands,
-        number_at(statements, row),
-    );
-    with_side(t, code::PHI, 0, row)
+    p.token()?;
+    let block = p.block()?;
+    let n = p.number_of(block);
+    further_operands(p, n)?;
+    Ok(Side {
+        code: code::PHI,
+        number: 0,
+        block,
+    })
 }
 
-fn instruction_side(
-    text: &[u8],
-    s: State,
-    statements: &[u32],
-    index: &[u16],
-    operands: &mut [u32],
-    k: usize,
-) -> Sided
-    requires text_len_bound { length text.now ≤ 65536 }
-    requires k_bound { k < 59 }
-    requires ready { Ready text.now s statements.now index.now }
-    ensures { (I : List ℕ) (A : List ℕ) → out result.side text.now result.state I statements.now operands.new A ≡ run (stands text.now s I statements.now operands.old A) (R.instruction_side k) }
+#[tactic(auto, using(parser::proofs::Steps::steps), unfolding(rules::specs::Reading::instruction_side))]
+fn instruction_side(p: &mut Parser, i: Instruction) -> Result<Side, Fault>
+    requires { Ready p.old }
+    ensures { Runs (R.instruction_side i.place) p.old result p.new }
 {
-    let t = operands_of(
-        text,
-        token(text, s),
-        statements,
-        index,
-        operands,
-        arity(k) as u32,
-    );
-    with_side(t, k as u32 + 1, 0, 0)
+    p.token()?;
+    operands_of(p, i.arity() as u32)?;
+    Ok(plain(i.code()))
 }
 
-// The keyword that a token is which names the instruction i: an instruction is none, and is not looked for among them.
-fn keyword_beside(text: &[u8], t: Spot, i: usize) -> u8
-    requires { i ≡ R.instruction_at text.now t }
-    ensures { result ≡ R.keyword_at text.now t }
+// The right side that begins with a keyword; what is none of them is at fault where the last token was found.
+#[tactic(auto, using(crate::proofs::Firsts::keyword_steps), unfolding(rules::specs::Reading::side_of))]
+fn keyword_side(p: &mut Parser, k: Option<Keyword>) -> Result<Side, Fault>
+    requires { Ready p.old }
+    ensures { Runs (R.side_of (keyword_number k) 59) p.old result p.new }
 {
-    if i < 59 {
-        return keyword::OTHER;
+    match k {
+        Some(Keyword::Var) => plain_side(p, code::VAR),
+        Some(Keyword::Block) => block_side(p),
+        Some(Keyword::Phi) => phi_side(p),
+        Some(Keyword::Reservedinst) => plain_side(p, code::RESERVEDINST),
+        Some(Keyword::Reservedconst) => plain_side(p, code::RESERVEDCONST),
+        _ => Err(Fault {
+            what: What::Token,
+            at: p.stand.last,
+        }),
     }
-    keyword_at(text, t)
 }
 
-// The right side that begins with the keyword k or the instruction i; what is neither is at fault where the last token was found.
-fn side_of(
-    text: &[u8],
-    s: State,
-    statements: &[u32],
-    index: &[u16],
-    operands: &mut [u32],
-    k: u8,
-    i: usize,
-) -> Sided
-    requires text_len_bound { length text.now ≤ 65536 }
-    requires ready { Ready text.now s statements.now index.now }
-    ensures { (I : List ℕ) (A : List ℕ) → out result.side text.now result.state I statements.now operands.new A ≡ run (stands text.now s I statements.now operands.old A) (R.side_of k i) }
+// The right side that begins with a token, if there is one: an instruction is no keyword, and is not looked for among them.
+#[tactic(auto, using(crate::proofs::Firsts::word_steps), unfolding(rules::specs::Reading::keyword_at, rules::specs::Reading::instruction_at))]
+fn side_ahead(p: &mut Parser, ahead: Option<Spot>) -> Result<Side, Fault>
+    requires { Ready p.old }
+    ensures { Runs (R.side_of (R.keyword_at p.old.text.bytes.now (ahead_of ahead)) (R.instruction_at p.old.text.bytes.now (ahead_of ahead))) p.old result p.new }
 {
-    if k == keyword::VAR {
-        return plain_side(text, s, k);
+    let Some(t) = ahead else {
+        return keyword_side(p, None);
+    };
+    if let Some(i) = p.instruction_at(t) {
+        return instruction_side(p, i);
     }
-    if k == keyword::BLOCK {
-        return block_side(text, s);
-    }
-    if k == keyword::PHI {
-        return phi_side(text, s, statements, index, operands);
-    }
-    if k == keyword::RESERVEDINST {
-        return plain_side(text, s, k);
-    }
-    if k == keyword::RESERVEDCONST {
-        return plain_side(text, s, k);
-    }
-    if i < 59 {
-        return instruction_side(text, s, statements, index, operands, i);
-    }
-    let last = s.last;
-    with_side(refuse(s, fault::TOKEN, last), 0, 0, 0)
+    let k = p.keyword_at(t);
+    keyword_side(p, k)
 }
 
-pub fn assignment_rhs(
-    text: &[u8],
-    s: State,
-    statements: &[u32],
-    index: &[u16],
-    operands: &mut [u32],
-) -> Sided
-    requires text_len_bound { length text.now ≤ 65536 }
-    requires ready { Ready text.now s statements.now index.now }
-    ensures { (I : List ℕ) (A : List ℕ) → out result.side text.now result.state I statements.now operands.new A ≡ run (stands text.now s I statements.now operands.old A) R.assignment_rhs }
+#[tactic(auto, using(crate::proofs::Firsts::rhs_steps), unfolding(rules::specs::Reading::assignment_rhs))]
+pub fn assignment_rhs(p: &mut Parser) -> Result<Side, Fault>
+    requires { Ready p.old }
+    ensures { Runs R.assignment_rhs p.old result p.new }
 {
-    let t = lookahead(text, s);
-    let spot = t.ahead;
-    let i = instruction_at(text, spot);
-    let k = keyword_beside(text, spot, i);
-    side_of(text, t, statements, index, operands, k, i)
+    let ahead = p.lookahead()?;
+    side_ahead(p, ahead)
 }

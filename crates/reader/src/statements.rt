@@ -1,201 +1,181 @@
 // Statements: assignments, `pc` and `blockpc`.
-ghost use Rattle.std.specs.Prelude.{◌≡◌, ◌&&◌, ◌||◌, List, ℕ, ◌+◌, ◌≤◌, eqb, length};
-ghost use Rattle.rules.specs.Reading as R;
+ghost use Rattle.std.specs.Prelude.{◌≡◌, ◌||◌, cond, eqb};
 ghost use Rattle.rules.specs.Keywords as word;
 ghost use Rattle.rules.specs.Tokens.{val_name};
-ghost use Rattle.tables.specs.Stands.{stands, run};
-ghost use Rattle.index.specs.Ready.{Ready};
+ghost use Rattle.rules.specs.Keywords.{keyword_number};
+ghost use Rattle.rules.specs.Rows.{◌up_to◌};
+ghost use Rattle.rules.specs.Reading as R;
+ghost use Rattle.reader.specs.Roots.{statement_by};
+ghost use Rattle.parser.specs.Stands.{Ready, Runs, ahead_of};
 
 use crate::attributes::attributes_of;
 use crate::operands::operand;
-use crate::sides::assignment_rhs;
-use index::hold;
-use parser::{expect, int_32, keyword_at, lookahead, names, token, type_if_any};
-use rules::{Span, Statement, code, fault, keyword, kind};
-use tables::{State, claim_statement};
+use crate::sides::{assignment_rhs, plain};
+use parser::{Fault, Parser};
+use rules::keyword::Keyword;
+use rules::{Side, Span, Spot, Statement, code, kind};
 
-// A name, its type if any, '=', the right side and attributes; the name enters scope with the row.
-fn assignment(
-    text: &[u8],
-    s: State,
-    statements: &mut [u32],
-    index: &[u16],
-    operands: &mut [u32],
-    attributes: &mut [u32],
-) -> State
-    requires text_len_bound { length text.now ≤ 65536 }
-    requires ready { Ready text.now s statements.old index.now }
-    ensures reads { (I : List ℕ) → stands text.now result I statements.new operands.new attributes.new ≡ run (stands text.now s I statements.old operands.old attributes.old) R.assignment }
-    ensures stays_ready { Ready text.now result statements.new index.now }
+// The rows that a table has had since it had so many: up to those that are counted now.
+pub(crate) fn since(first: u32, past: u32) -> Span
+    ensures { result ≡ first up_to past }
 {
-    let n = names::new_name(text, s, statements, index);
-    let name = n.last;
-    let t = type_if_any(text, n);
-    let e = expect(text, t.state, kind::EQ);
-    let r = assignment_rhs(text, e, statements, index, operands);
-    let right = r.state;
-    let side = r.side;
-    let a = attributes_of(text, right, attributes);
-    claim_statement(
-        a,
-        statements,
-        Statement {
-            code: side.code,
-            name: Span {
-                first: name.first,
-                past: name.past,
-            },
-            width: t.value,
-            number: side.number,
-            block: side.block,
-            operands: Span {
-                first: e.operands,
-                past: right.operands,
-            },
-            attributes: Span {
-                first: right.attributes,
-                past: a.attributes,
-            },
-        },
-    )
+    Span { first, past }
 }
 
-// Two operands, and the row of a condition: its code, its number and its block.
-fn condition(
-    text: &[u8],
-    s: State,
-    statements: &mut [u32],
-    index: &[u16],
-    operands: &mut [u32],
-    code: u32,
-    number: u32,
-    block: u32,
-) -> State
-    requires text_len_bound { length text.now ≤ 65536 }
-    requires ready { Ready text.now s statements.old index.now }
-    ensures reads { (I : List ℕ) (A : List ℕ) → stands text.now result I statements.new operands.new A ≡ run (stands text.now s I statements.old operands.old A) (R.condition code number block) }
-    ensures stays_ready { Ready text.now result statements.new index.now }
+// A name, its type if any, '=', the right side and attributes; the name enters scope with the row.
+#[tactic(auto, using(parser::proofs::Steps::steps), unfolding(rules::specs::Reading::assignment, parser::specs::Stands::world))]
+fn assignment(p: &mut Parser) -> Result<(), Fault>
+    requires { Ready p.old }
+    ensures { Runs R.assignment p.old result p.new }
 {
-    let x = operand(text, s, statements, index, operands);
-    let y = operand(text, x, statements, index, operands);
-    claim_statement(
-        y,
-        statements,
-        Statement {
-            code,
-            name: Span { first: 0, past: 0 },
-            width: 0,
-            number,
-            block,
-            operands: Span {
-                first: s.operands,
-                past: y.operands,
-            },
-            attributes: Span {
-                first: y.attributes,
-                past: y.attributes,
-            },
+    let name = p.new_name()?;
+    let width = p.type_if_any()?;
+    p.expect(kind::EQ)?;
+    let first_operand = p.counts.operands;
+    let side = assignment_rhs(p)?;
+    let operands = since(first_operand, p.counts.operands);
+    let first_attribute = p.counts.attributes;
+    attributes_of(p)?;
+    let attributes = since(first_attribute, p.counts.attributes);
+    p.claim_statement(Statement {
+        code: side.code,
+        name: Span {
+            first: name.first,
+            past: name.past,
         },
-    )
+        width,
+        number: side.number,
+        block: side.block,
+        operands,
+        attributes,
+    })
+}
+
+// Two operands, and the row of a condition: what stands in a right side's place is its code, its number and its block.
+#[tactic(auto, using(parser::proofs::Steps::steps), unfolding(rules::specs::Reading::condition, parser::specs::Stands::world))]
+fn condition(p: &mut Parser, side: Side) -> Result<(), Fault>
+    requires { Ready p.old }
+    ensures { Runs (R.condition side.code side.number side.block) p.old result p.new }
+{
+    let first_operand = p.counts.operands;
+    operand(p)?;
+    operand(p)?;
+    let operands = since(first_operand, p.counts.operands);
+    let none = p.counts.attributes;
+    let attributes = since(none, p.counts.attributes);
+    p.claim_statement(Statement {
+        code: side.code,
+        name: Span { first: 0, past: 0 },
+        width: 0,
+        number: side.number,
+        block: side.block,
+        operands,
+        attributes,
+    })
 }
 
 // `pc` and a condition.
-fn pc(text: &[u8], s: State, statements: &mut [u32], index: &[u16], operands: &mut [u32]) -> State
-    requires text_len_bound { length text.now ≤ 65536 }
-    requires ready { Ready text.now s statements.old index.now }
-    ensures reads { (I : List ℕ) (A : List ℕ) → stands text.now result I statements.new operands.new A ≡ run (stands text.now s I statements.old operands.old A) R.pc }
-    ensures stays_ready { Ready text.now result statements.new index.now }
+#[tactic(auto, using(parser::proofs::Steps::steps), unfolding(rules::specs::Reading::pc))]
+fn pc(p: &mut Parser) -> Result<(), Fault>
+    requires { Ready p.old }
+    ensures { Runs R.pc p.old result p.new }
 {
-    let t = token(text, s);
-    condition(text, t, statements, index, operands, code::PC, 0, 0)
+    p.token()?;
+    condition(p, plain(code::PC))
 }
 
 // `blockpc`, a block in scope, a number and a condition.
-fn blockpc(
-    text: &[u8],
-    s: State,
-    statements: &mut [u32],
-    index: &[u16],
-    operands: &mut [u32],
-) -> State
-    requires text_len_bound { length text.now ≤ 65536 }
-    requires ready { Ready text.now s statements.old index.now }
-    ensures reads { (I : List ℕ) (A : List ℕ) → stands text.now result I statements.new operands.new A ≡ run (stands text.now s I statements.old operands.old A) R.blockpc }
-    ensures stays_ready { Ready text.now result statements.new index.now }
+#[tactic(auto, using(parser::proofs::Steps::steps), unfolding(rules::specs::Reading::blockpc))]
+fn blockpc(p: &mut Parser) -> Result<(), Fault>
+    requires { Ready p.old }
+    ensures { Runs R.blockpc p.old result p.new }
 {
-    let b = names::block(text, token(text, s), statements, index);
-    let n = int_32(text, b.state);
+    p.token()?;
+    let block = p.block()?;
+    let number = p.int_32()?;
     condition(
-        text,
-        n.state,
-        statements,
-        index,
-        operands,
-        code::BLOCKPC,
-        n.value,
-        b.value,
+        p,
+        Side {
+            code: code::BLOCKPC,
+            number,
+            block,
+        },
     )
 }
 
-// Whether the reader goes on and a statement is ahead.
-fn statement_ahead(text: &[u8], s: State) -> bool
-    ensures { result ≡ (eqb s.fault 0 && (eqb s.ahead.kind val_name || (eqb (R.keyword_at text.now s.ahead) word.pc || eqb (R.keyword_at text.now s.ahead) word.blockpc))) }
+// Whether a keyword begins a condition.
+fn is_condition(k: Option<Keyword>) -> bool
+    ensures { result ≡ (eqb (keyword_number k) word.pc || eqb (keyword_number k) word.blockpc) }
 {
-    if s.fault != fault::NONE {
-        return false;
-    }
-    let spot = s.ahead;
-    if spot.kind == kind::VAL_NAME {
-        return true;
-    }
-    let k = keyword_at(text, spot);
-    k == keyword::PC || k == keyword::BLOCKPC
+    matches!(k, Some(Keyword::Pc | Keyword::Blockpc))
 }
 
-// An assignment, a `pc` or a `blockpc`, by the token ahead.
-fn statement(
-    text: &[u8],
-    s: State,
-    statements: &mut [u32],
-    index: &mut [u16],
-    operands: &mut [u32],
-    attributes: &mut [u32],
-) -> State
-    requires text_len_bound { length text.now ≤ 65536 }
-    requires ready { Ready text.now s statements.old index.old }
-    ensures reads { (I : List ℕ) → stands text.now result I statements.new operands.new attributes.new ≡ run (stands text.now s I statements.old operands.old attributes.old) R.statement }
-    ensures stays_ready { Ready text.now result statements.new index.new }
+// Whether a statement begins with a token: a name, `pc` or `blockpc`.
+#[tactic(auto, unfolding(rules::specs::Reading::keyword_at))]
+fn begins_statement(p: &Parser, ahead: Option<Spot>) -> bool
+    ensures { result ≡ (eqb (ahead_of ahead).kind val_name || (eqb (R.keyword_at p.now.text.bytes.now (ahead_of ahead)) word.pc || eqb (R.keyword_at p.now.text.bytes.now (ahead_of ahead)) word.blockpc)) }
 {
-    hold(text, statements, index, s.scope, s.statements);
-    let t = lookahead(text, s);
-    let spot = t.ahead;
-    if spot.kind == kind::VAL_NAME {
-        return assignment(text, t, statements, index, operands, attributes);
+    match ahead {
+        Some(t) => t.kind == kind::VAL_NAME || is_condition(p.keyword_at(t)),
+        None => false,
     }
-    if keyword_at(text, spot) == keyword::PC {
-        return pc(text, t, statements, index, operands);
+}
+
+// Whether a statement comes next.
+#[tactic(auto, using(crate::proofs::Looks::statement_steps), unfolding(rules::specs::Reading::statement_ahead))]
+fn statement_ahead(p: &mut Parser) -> Result<bool, Fault>
+    ensures { Runs R.statement_ahead p.old result p.new }
+{
+    let ahead = p.lookahead()?;
+    Ok(begins_statement(p, ahead))
+}
+
+// A `pc` or else a `blockpc`, by the keyword that comes next.
+#[tactic(auto, using(parser::proofs::Steps::steps))]
+fn condition_by(p: &mut Parser, k: Option<Keyword>) -> Result<(), Fault>
+    requires { Ready p.old }
+    ensures { Runs (cond (eqb (keyword_number k) word.pc) R.pc R.blockpc) p.old result p.new }
+{
+    match k {
+        Some(Keyword::Pc) => pc(p),
+        _ => blockpc(p),
     }
-    blockpc(text, t, statements, index, operands)
+}
+
+// An assignment, a `pc` or a `blockpc`, by the token that comes next.
+#[tactic(auto, using(crate::proofs::Looks::statement_ways), unfolding(rules::specs::Reading::keyword_at))]
+fn statement_from(p: &mut Parser, ahead: Option<Spot>) -> Result<(), Fault>
+    requires { Ready p.old }
+    ensures { Runs (statement_by p.old.text.bytes.now (ahead_of ahead)) p.old result p.new }
+{
+    let Some(t) = ahead else {
+        return condition_by(p, None);
+    };
+    if t.kind == kind::VAL_NAME {
+        return assignment(p);
+    }
+    let k = p.keyword_at(t);
+    condition_by(p, k)
+}
+
+// A statement; the rows before it may enter the index.
+#[tactic(auto, using(parser::proofs::Steps::steps))]
+fn statement(p: &mut Parser) -> Result<(), Fault>
+    requires { Ready p.old }
+    ensures { Runs R.statement p.old result p.new }
+{
+    p.hold();
+    let ahead = p.lookahead()?;
+    statement_from(p, ahead)
 }
 
 // Statements, as many as come one after another.
-pub fn statements_of(
-    text: &[u8],
-    s: State,
-    statements: &mut [u32],
-    index: &mut [u16],
-    operands: &mut [u32],
-    attributes: &mut [u32],
-) -> State
-    requires text_len_bound { length text.now ≤ 65536 }
-    requires ready { Ready text.now s statements.old index.old }
-    ensures reads { (I : List ℕ) → stands text.now result I statements.new operands.new attributes.new ≡ run (stands text.now s I statements.old operands.old attributes.old) R.statements }
-    ensures stays_ready { Ready text.now result statements.new index.new }
+pub fn statements_of(p: &mut Parser) -> Result<(), Fault>
+    requires { Ready p.old }
+    ensures { Runs R.statements p.old result p.new }
 {
-    let mut t = lookahead(text, s);
-    while statement_ahead(text, t) {
-        t = statement(text, t, statements, index, operands, attributes);
-        t = lookahead(text, t);
+    while statement_ahead(p)? {
+        statement(p)?;
     }
-    t
+    Ok(())
 }

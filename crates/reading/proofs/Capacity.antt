@@ -8,8 +8,7 @@ use native.Mathlib.Omega.{arith}
 use borrow.Author.Tests.{lt-ltb, ltb-true, ltb-false}
 use lib.Dec.{eqb, ltb}
 use lib.ListN.{length}
-use Rattle.rules.specs.declared.Checked.{Checked}
-use Rattle.rules.specs.declared.Checked.TheVariants.{WellFormed, IllFormed}
+use Rattle.std.specs.Prelude.{Ok, Err}
 use Rattle.rules.specs.declared.Entry.{Entry}
 use Rattle.rules.specs.declared.Spot.{Spot}
 use Rattle.rules.specs.declared.Lexed.{Lexed}
@@ -21,7 +20,7 @@ use Rattle.rules.specs.declared.Attribute.{Attribute}
 use Rattle.rules.specs.Faults as fault
 use Rattle.rules.specs.Rows.{item_length, statement_length, operand_length, attribute_length, capacity}
 use Rattle.rules.specs.Tokens.{token_at}
-use Rattle.rules.specs.Utf8.{checked}
+use Rattle.rules.specs.Utf8.{checked, Checked}
 use Rattle.rules.specs.World.{Table, Tables, World, Res, go, stop, P, bind, ◌>>=◌, give, asks, standing, scoped, claim_item, claim_statement, claim_operand, claim_attribute, repeated, many}
 use Rattle.rules.specs.Reading as R
 use Rattle.rules.specs.Answers.{Lent, start, fault_number, Outcome, accepted, refusal, outcome, read_checked, reading, answer_of, rows_of}
@@ -344,8 +343,8 @@ module _ (e : Entry) (text : List ℕ) (l l' : Lent) (b : Below (room l) (room l
 
   checked_same : (c : Checked) → NotSeven (read_checked c e text l) → Same (read_checked c e text l) (read_checked c e text l')
   unfolding read_checked
-  checked_same WellFormed n = outcome_same start_alike (never_fuel e text l) n
-  checked_same (IllFormed p) n = same _
+  checked_same (Ok u) n = outcome_same start_alike (never_fuel e text l) n
+  checked_same (Err p) n = same _
 
   -- More room changes an answer only where the answer was 7.
   pub same_unless_seven : NotSeven (reading e text l) → Same (reading e text l) (reading e text l')
@@ -357,8 +356,8 @@ module _ (e : Entry) (text : List ℕ) (l l' : Lent) (b : Below (room l) (room l
 
   checked_over : (c : Checked) (p : ℕ) (t : Tables) → read_checked c e text l ≡ refusal 7 p → read_checked c e text l' ≡ accepted t → Fits (room l) t → ⊥
   unfolding read_checked
-  checked_over WellFormed p t h k fit = outcome_over start_alike (never_fuel e text l) h k fit
-  checked_over (IllFormed q) p t h k fit = let z : ◌≡◌ {A = ℕ} 0 1 = cc in omega arith
+  checked_over (Ok u) p t h k fit = outcome_over start_alike (never_fuel e text l) h k fit
+  checked_over (Err q) p t h k fit = let z : ◌≡◌ {A = ℕ} 0 1 = cc in omega arith
 
   -- Where the answer is 7, and is not with more room, the text has more rows than there was room for.
   pub seven_over : (p : ℕ) (t : Tables) → reading e text l ≡ refusal 7 p → reading e text l' ≡ accepted t → Fits (room l) t → ⊥

@@ -8,8 +8,7 @@ use Rattle.rules.specs.declared.Spot.{Spot}
 use Rattle.rules.specs.declared.Span.{Span}
 use Rattle.rules.specs.declared.Lexed.{Lexed}
 use Rattle.rules.specs.declared.Lexed.TheVariants.{Found, End, Refused}
-use Rattle.rules.specs.declared.Row.{Row}
-use Rattle.rules.specs.declared.Row.TheVariants.{At, Missing}
+use Rattle.std.specs.Prelude.{Option, Some, None}
 use Rattle.rules.specs.declared.Item.{Item}
 use Rattle.rules.specs.declared.Statement.{Statement}
 use Rattle.rules.specs.declared.Operand.{Operand}
@@ -116,20 +115,20 @@ module _ {C : ℕ → World → World → Type 0} (f : Frame C) where
   unfolding R.type_if_any
   type_if_any-keeps = after lookahead-keeps (λ t. choose (eqb t.kind _) (after token-keeps (λ u. type-keeps)) (given 0))
 
-  known-keeps : (r : Row) (t : Spot) → Keeps C (R.known r t)
+  known-keeps : (r : Option ℕ) (t : Spot) → Keeps C (R.known r t)
   unfolding R.known
-  known-keeps (At r) t = given r
-  known-keeps Missing t = halted _ t
+  known-keeps (Some r) t = given r
+  known-keeps None t = halted _ t
 
-  fresh_keeps : (r : Row) (t : Spot) → Keeps C (R.fresh r t)
+  fresh_keeps : (r : Option ℕ) (t : Spot) → Keeps C (R.fresh r t)
   unfolding R.fresh
-  fresh_keeps (At r) t = halted _ t
-  fresh_keeps Missing t = given tt
+  fresh_keeps (Some r) t = halted _ t
+  fresh_keeps None t = given tt
 
-  block_at-keeps : (r : Row) (t : Spot) → Keeps C (R.block_at r t)
+  block_at-keeps : (r : Option ℕ) (t : Spot) → Keeps C (R.block_at r t)
   unfolding R.block_at
-  block_at-keeps (At r) t = record { by = λ w. arms (eqb (statement_at w.tables.statements.words r).code (keyword_code keyword.block)) (goes r w (f.stays w _)) (stops fault.no_block t tt) }
-  block_at-keeps Missing t = halted _ t
+  block_at-keeps (Some r) t = record { by = λ w. arms (eqb (statement_at w.tables.statements.words r).code (keyword_code keyword.block)) (goes r w (f.stays w _)) (stops fault.no_block t tt) }
+  block_at-keeps None t = halted _ t
 
   pub value_keeps : Keeps C R.value
   unfolding R.value

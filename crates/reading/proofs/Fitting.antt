@@ -8,8 +8,7 @@ use native.Mathlib.Omega.{arith}
 use borrow.Author.Tests.{eqb-true, eqb-false}
 use lib.Dec.{eqb, ltb}
 use lib.ListN.{length}
-use Rattle.rules.specs.declared.Checked.{Checked}
-use Rattle.rules.specs.declared.Checked.TheVariants.{WellFormed, IllFormed}
+use Rattle.std.specs.Prelude.{Ok, Err}
 use Rattle.rules.specs.declared.Entry.{Entry}
 use Rattle.rules.specs.declared.Lexed.{Lexed}
 use Rattle.rules.specs.declared.Lexed.TheVariants.{Found, End, Refused}
@@ -18,7 +17,7 @@ use Rattle.rules.specs.declared.Statement.{Statement}
 use Rattle.rules.specs.declared.Operand.{Operand}
 use Rattle.rules.specs.declared.Attribute.{Attribute}
 use Rattle.rules.specs.Tokens.{token_at}
-use Rattle.rules.specs.Utf8.{checked}
+use Rattle.rules.specs.Utf8.{checked, Checked}
 use Rattle.rules.specs.World.{Table, Tables, World, Res, P, ◌>>=◌, give, asks, scoped, claim_item, claim_statement, claim_operand, claim_attribute, repeated, many}
 use Rattle.rules.specs.Reading as R
 use Rattle.rules.specs.Answers.{Lent, start, Outcome, accepted, refusal, outcome, read_checked, reading, answer_of}
@@ -110,8 +109,8 @@ outcome_fits (stops n s h) k = absurd (let z : ◌≡◌ {A = ℕ} 0 1 = cc in l
 
 checked-fits : (c : Checked) (e : Entry) (text : List ℕ) (l : Lent) (t : Tables) → read_checked c e text l ≡ accepted t → Fits (room l) t
 unfolding read_checked
-checked-fits WellFormed e text l t h = outcome_fits (items-fit e text l) h
-checked-fits (IllFormed p) e text l t h = absurd (let z : ◌≡◌ {A = ℕ} 0 1 = cc in let y : ⊥ = omega arith in y)
+checked-fits (Ok u) e text l t h = outcome_fits (items-fit e text l) h
+checked-fits (Err p) e text l t h = absurd (let z : ◌≡◌ {A = ℕ} 0 1 = cc in let y : ⊥ = omega arith in y)
 
 -- What is accepted fits in the tables lent.
 pub accepted-fits : (e : Entry) (text : List ℕ) (l : Lent) (t : Tables) → reading e text l ≡ accepted t → Fits (room l) t

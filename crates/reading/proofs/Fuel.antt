@@ -8,15 +8,14 @@ use native.Mathlib.Omega.{arith}
 use borrow.Author.Tests.{eqb-false}
 use lib.Dec.{eqb, ltb}
 use lib.ListN.{length}
-use Rattle.rules.specs.declared.Checked.{Checked}
-use Rattle.rules.specs.declared.Checked.TheVariants.{WellFormed, IllFormed}
+use Rattle.std.specs.Prelude.{Ok, Err}
 use Rattle.rules.specs.declared.Entry.{Entry}
 use Rattle.rules.specs.declared.Spot.{Spot}
 use Rattle.rules.specs.declared.Lexed.{Lexed}
 use Rattle.rules.specs.declared.Lexed.TheVariants.{Found, End, Refused}
 use Rattle.rules.specs.Faults as fault
 use Rattle.rules.specs.Tokens.{token_at}
-use Rattle.rules.specs.Utf8.{checked}
+use Rattle.rules.specs.Utf8.{checked, Checked}
 use Rattle.rules.specs.World.{Res, go, stop, asks}
 use Rattle.rules.specs.Reading as R
 use Rattle.rules.specs.Answers.{Lent, start, fault_number, Outcome, accepted, refusal, outcome, read_checked, reading}
@@ -106,8 +105,8 @@ outcome-within (stop f t) h = let n : Numbered f t = stopped h in number-within 
 
 checked-within : (c : Checked) (e : Entry) (text : List ℕ) (l : Lent) → Refuses (λ n p. OneToSeven n) (read_checked c e text l)
 unfolding read_checked
-checked-within WellFormed e text l = outcome-within (R.items e (start text l)) ((items-stop e).by (start text l))
-checked-within (IllFormed p) e text l = omega arith
+checked-within (Ok u) e text l = outcome-within (R.items e (start text l)) ((items-stop e).by (start text l))
+checked-within (Err p) e text l = omega arith
 
 -- The refusals of a reading are numbered 1 to 7.
 pub refusals : (e : Entry) (text : List ℕ) (l : Lent) → Refuses (λ n p. (1 ≤ n) × (n ≤ 7)) (reading e text l)
@@ -122,3 +121,7 @@ refused-number e text l n p h = rw h at (refusals e text l)
 
 pub never_zero : (e : Entry) (text : List ℕ) (l : Lent) (p : ℕ) → reading e text l ≡ refusal 0 p → ⊥
 never_zero e text l p h = omega (arith, refused-number e text l 0 p h)
+
+-- So are those of what reads the tokens.
+pub items-number : (e : Entry) (text : List ℕ) (l : Lent) (n p : ℕ) → outcome (R.items e (start text l)) ≡ refusal n p → (1 ≤ n) × (n ≤ 7)
+items-number e text l n p h = rw h at (outcome-within (R.items e (start text l)) ((items-stop e).by (start text l)))

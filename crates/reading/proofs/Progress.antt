@@ -9,8 +9,7 @@ use native.Mathlib.Omega.{arith}
 use borrow.Author.Tests.{ne_eqb, eqb-true, ltb-false}
 use lib.Dec.{eqb, ltb}
 use lib.ListN.{length}
-use Rattle.rules.specs.declared.Checked.{Checked}
-use Rattle.rules.specs.declared.Checked.TheVariants.{WellFormed, IllFormed}
+use Rattle.std.specs.Prelude.{Ok, Err}
 use Rattle.rules.specs.declared.Entry.{Entry}
 use Rattle.rules.specs.declared.Spot.{Spot}
 use Rattle.rules.specs.declared.Lexed.{Lexed}
@@ -22,7 +21,7 @@ use Rattle.rules.specs.declared.Attribute.{Attribute}
 use Rattle.rules.specs.Faults as fault
 use Rattle.rules.specs.Rows.{item_length, statement_length, operand_length, attribute_length}
 use Rattle.rules.specs.Tokens.{token_at}
-use Rattle.rules.specs.Utf8.{checked}
+use Rattle.rules.specs.Utf8.{checked, Checked}
 use Rattle.rules.specs.World.{Table, Tables, World, Res, go, stop, P, asks, having, standing, scoped, claim_item, claim_statement, claim_operand, claim_attribute, repeated, many}
 use Rattle.rules.specs.Reading as R
 use Rattle.rules.specs.Answers.{Lent, start, fault_number, accepted, refusal, outcome, read_checked, reading}
@@ -282,8 +281,8 @@ Within text t = (rows t ≤ length text) × (tokens t ≤ length text)
 
 checked-rows : (c : Checked) (e : Entry) (text : List ℕ) (l : Lent) (t : Tables) → read_checked c e text l ≡ accepted t → Within text t
 unfolding read_checked
-checked-rows WellFormed e text l t h = outcome-tables (Within text) _ t (weaker (λ a v s. let z = spare_within s in let y = own_within s in (omega arith, omega arith)) (ends e text l)) h
-checked-rows (IllFormed q) e text l t h = absurd (let z : ◌≡◌ {A = ℕ} 0 1 = cc in omega arith)
+checked-rows (Ok u) e text l t h = outcome-tables (Within text) _ t (weaker (λ a v s. let z = spare_within s in let y = own_within s in (omega arith, omega arith)) (ends e text l)) h
+checked-rows (Err q) e text l t h = absurd (let z : ◌≡◌ {A = ℕ} 0 1 = cc in omega arith)
 
 -- What is accepted has no more rows, in all four tables together, than the text has bytes; twice its items and three times its statements and attributes are no more.
 pub accepted_bounds : (e : Entry) (text : List ℕ) (l : Lent) (t : Tables) → reading e text l ≡ accepted t → Within text t
@@ -323,8 +322,8 @@ outcome_seven (stop f t) p h e = h t (ap (λ n. stop n t) (seven f (refusal-numb
 
 checked_seven : (c : Checked) (e : Entry) (text : List ℕ) (l : Lent) (p : ℕ) → Ample text (capacities (start text l).tables) → read_checked c e text l ≡ refusal 7 p → ⊥
 unfolding read_checked
-checked_seven WellFormed e text l p a h = outcome_seven _ p (never_full e text l a) h
-checked_seven (IllFormed q) e text l p a h = omega (arith, refusal-number h)
+checked_seven (Ok u) e text l p a h = outcome_seven _ p (never_full e text l a) h
+checked_seven (Err q) e text l p a h = omega (arith, refusal-number h)
 
 -- Tables of a row of items for two bytes of a text that is not too long, of statements and attributes for three, and of operands for one, are never too small.
 pub enough_rows : (e : Entry) (text : List ℕ) (l : Lent) → (length text ≤ 65536 → Ample text (capacities (start text l).tables)) → (p : ℕ) → reading e text l ≡ refusal 7 p → ⊥

@@ -9,8 +9,7 @@ use lib.Dec.{eqb, ltb}
 use Rattle.rules.specs.declared.Spot.{Spot}
 use Rattle.rules.specs.declared.Span.{Span}
 use Rattle.rules.specs.declared.Side.{Side}
-use Rattle.rules.specs.declared.Row.{Row}
-use Rattle.rules.specs.declared.Row.TheVariants.{At, Missing}
+use Rattle.std.specs.Prelude.{Option, Some, None}
 use Rattle.rules.specs.declared.Item.{Item}
 use Rattle.rules.specs.declared.Statement.{Statement}
 use Rattle.rules.specs.declared.Operand.{Operand}
@@ -91,7 +90,7 @@ pub record Closed (Good : Purse → Purse → (A : Type 0) → P A → Type 0) :
   pub again : {of : Tables → Table} {peek : P Bool} {rule : P (Unit {0})} → Keeps of peek → Claims of rule → ((j : Purse) → Good j j Bool peek) → ((j : Purse) → Good j j (Unit {0}) rule) → (j : Purse) → Good j j (Unit {0}) (many of peek rule)
 
 -- a block's row is looked at
-block-seen : (r : ℕ) (t : Spot) (w : World) → (asks (code_seen r) >>= λ c. cond (eqb c (keyword_code keyword.block)) (give r) (refuse fault.no_block t)) w ≡ R.block_at (At r) t w
+block-seen : (r : ℕ) (t : Spot) (w : World) → (asks (code_seen r) >>= λ c. cond (eqb c (keyword_code keyword.block)) (give r) (refuse fault.no_block t)) w ≡ R.block_at (Some r) t w
 unfolding R.block_at asks
 block-seen r t w = by (eqb (code_seen r w) (keyword_code keyword.block))
   where
@@ -168,22 +167,22 @@ module _ {Good : Purse → Purse → (A : Type 0) → P A → Type 0} (g : Close
   unfolding R.in_scope
   in_scope_blind t c w = refl
 
-  pub known_good : (j : Purse) (r : Row) (t : Spot) → Good j j ℕ (R.known r t)
+  pub known_good : (j : Purse) (r : Option ℕ) (t : Spot) → Good j j ℕ (R.known r t)
   unfolding R.known
-  known_good j (At r) t = gives r
-  known_good j Missing t = halts fault.unknown t (omega arith)
+  known_good j (Some r) t = gives r
+  known_good j None t = halts fault.unknown t (omega arith)
 
-  pub fresh_good : (j : Purse) (r : Row) (t : Spot) → Good j j (Unit {0}) (R.fresh r t)
+  pub fresh_good : (j : Purse) (r : Option ℕ) (t : Spot) → Good j j (Unit {0}) (R.fresh r t)
   unfolding R.fresh
-  fresh_good j (At r) t = halts fault.redefined t (omega arith)
-  fresh_good j Missing t = gives tt
+  fresh_good j (Some r) t = halts fault.redefined t (omega arith)
+  fresh_good j None t = gives tt
 
-  pub block_at_good : (j : Purse) (r : Row) (t : Spot) → Good j j ℕ (R.block_at r t)
+  pub block_at_good : (j : Purse) (r : Option ℕ) (t : Spot) → Good j j ℕ (R.block_at r t)
   unfolding R.block_at
-  block_at_good j (At r) t =
+  block_at_good j (Some r) t =
       subst (λ (p : P ℕ). Good j j ℕ p) (fun_ext (block-seen r t))
       (next (seen (code_seen r) (λ c w. refl)) (λ c. test (eqb c (keyword_code keyword.block)) (gives r) (halts fault.no_block t (omega arith))))
-  block_at_good j Missing t = halts fault.no_block t (omega arith)
+  block_at_good j None t = halts fault.no_block t (omega arith)
 
   pub value_good : (j : Purse) → Good j (earned j) ℕ R.value
   unfolding R.value

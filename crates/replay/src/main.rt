@@ -5,29 +5,23 @@
 mod print_lines;
 mod reads;
 
-// Reads up to 524,288 bytes of lines.
+use vector_lines::{Fields, Lines};
+
+// Replays each line of up to 524,288 bytes.
 fn main(rt: HostRuntime) {
     let mut input = [0u8; 524288];
     let n = input::read_full(&mut rt.stdin(), &mut input);
-    replay_all(&rt, &input[..n]);
-}
-
-// Replays line after line.
-fn replay_all(rt: &impl Print, lines: &[u8]) {
-    let mut i = 0;
-    while i < lines.len() {
-        let past = i + scan::line_len(&lines[i..]);
-        replay(rt, &lines[i..past]);
-        i = past + 1;
+    for line in Lines::of(&input[..n]) {
+        replay(&rt, Fields::of(line));
     }
 }
 
 // Answers the question of a line.
-fn replay(rt: &impl Print, line: &[u8]) {
-    match vector_lines::letter(line, 0) {
-        b'P' => print_lines::replay_print(rt, line),
-        b'D' => print_lines::replay_damaged(rt, line),
-        b'N' => print_lines::replay_name(rt, line),
-        _ => reads::replay_read(rt, line),
+fn replay(rt: &impl Print, mut fields: Fields<'_>) {
+    match fields.letter() {
+        b'P' => print_lines::replay_print(rt, fields),
+        b'D' => print_lines::replay_damaged(rt, fields),
+        b'N' => print_lines::replay_name(rt, fields),
+        letter => reads::replay_read(rt, letter, fields),
     }
 }

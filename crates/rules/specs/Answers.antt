@@ -1,12 +1,10 @@
 -- Section 4 of docs/RULES.md. Answers: which number and place of the table a reading gets, and every word of the lent tables.
 -- Assumes nothing.
-use Rattle.std.specs.Prelude.{ℕ, ◌-◌, ◌≡◌, cond, List, [], ◌∷◌, ◌++◌, eqb, ltb, length, replicate}
-use Rattle.rules.specs.declared.Checked.{Checked}
-use Rattle.rules.specs.declared.Checked.TheVariants.{WellFormed, IllFormed}
+use Rattle.std.specs.Prelude.{ℕ, ◌-◌, ◌≡◌, cond, List, [], ◌∷◌, ◌++◌, eqb, ltb, length, replicate, Ok, Err}
 use Rattle.rules.specs.declared.Entry.{Entry}
-use Rattle.rules.specs.declared.Answer.{Answer}
-use Rattle.rules.specs.declared.Answer.TheVariants as answer
-use Rattle.rules.specs.Utf8.{checked}
+use Rattle.rules.specs.Answer.{Answer}
+use Rattle.rules.specs.Answer as answer
+use Rattle.rules.specs.Utf8.{checked, Checked}
 use Rattle.rules.specs.Faults as fault
 use Rattle.rules.specs.Rows.{item_length, statement_length, operand_length, attribute_length, capacity}
 use Rattle.rules.specs.World.{World, Table, Tables, Res, go, stop}
@@ -65,8 +63,8 @@ outcome (stop f t) = refusal (fault_number f) t.first
 
 -- 2 over the whole text, then 3 to 7, whichever comes first while reading left to right
 unfoldable pub read_checked : Checked → Entry → List ℕ → Lent → Outcome
-read_checked WellFormed e text l = outcome (items e (start text l))
-read_checked (IllFormed p) e text l = refusal 2 p
+read_checked (Ok u) e text l = outcome (items e (start text l))
+read_checked (Err p) e text l = refusal 2 p.at
 
 -- 1 by the length alone, before any byte is looked at
 unfoldable pub reading : Entry → List ℕ → Lent → Outcome

@@ -2,9 +2,8 @@
 -- with the corrections that section 2 lists, each told in words above it, and says with each which names are in scope and which numbers fit.
 -- Nothing here looks ahead, and nothing is said of an order in which a text is read.
 -- Assumes nothing.
-use Rattle.std.specs.Prelude.{◌≡◌, true, false, cond, List, [], ◌∷◌, ◌++◌, ℕ, ◌≤◌, ◌<◌, length, drop}
+use Rattle.std.specs.Prelude.{◌≡◌, true, false, cond, List, [], ◌∷◌, ◌++◌, ℕ, ◌≤◌, ◌<◌, length, drop, Ok}
 use Prim.Native.String.{String}
-use Rattle.rules.specs.declared.Checked.TheVariants.{WellFormed}
 use Rattle.rules.specs.declared.Entry.{Entry}
 use Rattle.rules.specs.declared.Entry.TheVariants.{Replacements, LeftHandSides, RightHandSides}
 use Rattle.rules.specs.declared.Lexed.TheVariants.{Found, End}
@@ -208,5 +207,5 @@ pub record Derives (e : Entry) (text : List ℕ) (xs : List syntax.Item) : Type 
 -- and it has at most 65,536 bytes and is well-formed UTF-8
 pub record Sentence (e : Entry) (text : List ℕ) (xs : List syntax.Item) : Type 0 where
   pub short : length text ≤ 65536
-  pub well_formed : checked text ≡ WellFormed
+  pub well_formed : checked text ≡ Ok tt
   pub derives : Derives e text xs

@@ -1,6 +1,8 @@
 -- Section 2 of docs/RULES.md. What each keyword is called: its place in the list `keywords` of Instructions.
 -- Assumes nothing.
-use Rattle.std.specs.Prelude.{ℕ}
+use Rattle.std.specs.Prelude.{ℕ, Option, Some, None}
+use Rattle.rules.specs.declared.keyword.Keyword.{Keyword}
+use Rattle.rules.specs.declared.keyword.Keyword.TheVariants as word
 
 abbrev pub var : ℕ
 var = 0
@@ -61,3 +63,26 @@ harvested_from_use = 18
 
 abbrev pub other : ℕ
 other = 19
+
+-- the number of a keyword, or that a word is none
+abbrev pub keyword_number : Option Keyword → ℕ
+keyword_number None = other
+keyword_number (Some word.Var) = var
+keyword_number (Some word.Block) = block
+keyword_number (Some word.Phi) = phi
+keyword_number (Some word.Reservedinst) = reservedinst
+keyword_number (Some word.Reservedconst) = reservedconst
+keyword_number (Some word.Pc) = pc
+keyword_number (Some word.Blockpc) = blockpc
+keyword_number (Some word.Infer) = infer
+keyword_number (Some word.Result) = result
+keyword_number (Some word.Cand) = cand
+keyword_number (Some word.PowerOfTwo) = power_of_two
+keyword_number (Some word.Negative) = negative
+keyword_number (Some word.NonNegative) = non_negative
+keyword_number (Some word.NonZero) = non_zero
+keyword_number (Some word.HasExternalUses) = has_external_uses
+keyword_number (Some word.SignBits) = sign_bits
+keyword_number (Some word.Range) = range
+keyword_number (Some word.DemandedBits) = demanded_bits
+keyword_number (Some word.HarvestedFromUse) = harvested_from_use

@@ -11,7 +11,11 @@ pub mod Faults
 pub mod Rows
 pub mod World
 pub mod Reading
+pub mod Answer
+pub mod StoreAnswer
+pub mod LoadAnswer
 pub mod Answers
+pub mod Results
 pub mod Out
 pub mod Syntax
 pub mod Meaning

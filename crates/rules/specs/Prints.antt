@@ -2,8 +2,8 @@
 -- Assumes nothing.
 use Rattle.std.specs.Prelude.{ℕ, ◌+◌, ◌*◌, ◌≡◌, Bool, cond, not, ◌&&◌, List, [], ◌∷◌, ◌++◌, ltb, length, replicate, drop}
 use Rattle.rules.specs.declared.Span.{Span}
-use Rattle.rules.specs.declared.Answer.{Answer}
-use Rattle.rules.specs.declared.Answer.TheVariants.{Printed, Refused}
+use Rattle.rules.specs.Answer.{Answer}
+use Rattle.rules.specs.Answer.{Printed, Refused}
 use Rattle.rules.specs.Rows.{◌up_to◌, statement_at}
 use Rattle.rules.specs.View.{items_of}
 use Rattle.rules.specs.Printing.{printed_all}

@@ -1,14 +1,12 @@
 -- Sections 2, 3 and 5 of docs/RULES.md. Reading: the grammar, rule by rule, in the order of the crate's parser; which names are in scope; when rows are claimed.
 -- Assumes nothing.
-use Rattle.std.specs.Prelude.{ℕ, zero, suc, ◌+◌, ◌-◌, min, Bool, true, cond, not, ◌&&◌, ◌||◌, List, [], ◌∷◌, eqb, leb, ltb, length}
+use Rattle.std.specs.Prelude.{ℕ, zero, suc, ◌+◌, ◌-◌, min, Option, Some, None, Bool, true, cond, not, ◌&&◌, ◌||◌, List, [], ◌∷◌, eqb, leb, ltb, length}
 use Rattle.rules.specs.declared.Token.{Token}
 use Rattle.rules.specs.declared.Lexed.{Lexed}
 use Rattle.rules.specs.declared.Lexed.TheVariants.{Found, End, Refused}
 use Rattle.rules.specs.declared.Spot.{Spot}
 use Rattle.rules.specs.declared.Span.{Span}
 use Rattle.rules.specs.declared.Attribute.{Attribute}
-use Rattle.rules.specs.declared.Row.{Row}
-use Rattle.rules.specs.declared.Row.TheVariants.{At, Missing}
 use Rattle.rules.specs.declared.Side.{Side}
 use Rattle.rules.specs.declared.Entry.{Entry}
 use Rattle.rules.specs.declared.Entry.TheVariants.{Replacements, LeftHandSides, RightHandSides}
@@ -119,28 +117,28 @@ type_if_any = do
 -- Names
 
 -- the last of the k statement rows from one on that has a name
-unfoldable pub find_row : List ℕ → List ℕ → List ℕ → ℕ → ℕ → Row
-find_row text words name first zero = Missing
+unfoldable pub find_row : List ℕ → List ℕ → List ℕ → ℕ → ℕ → Option ℕ
+find_row text words name first zero = None
 find_row text words name first (suc k) =
-    cond (same (name_at text words (first + k)) name) (At (first + k)) (find_row text words name first k)
+    cond (same (name_at text words (first + k)) name) (Some (first + k)) (find_row text words name first k)
 
 -- the item's statement that has the name which a token is
-unfoldable pub in_scope : Spot → World → Row
+unfoldable pub in_scope : Spot → World → Option ℕ
 in_scope t w =
     find_row w.text w.tables.statements.words (letters w.text t) w.scope (w.tables.statements.count - w.scope)
 
-unfoldable pub known : Row → Spot → P ℕ
-known (At r) t = give r
-known Missing t = refuse fault.unknown t
+unfoldable pub known : Option ℕ → Spot → P ℕ
+known (Some r) t = give r
+known None t = refuse fault.unknown t
 
-unfoldable pub fresh : Row → Spot → P (Unit {0})
-fresh (At r) t = refuse fault.redefined t
-fresh Missing t = give tt
+unfoldable pub fresh : Option ℕ → Spot → P (Unit {0})
+fresh (Some r) t = refuse fault.redefined t
+fresh None t = give tt
 
-unfoldable pub block_at : Row → Spot → P ℕ
-block_at (At r) t w =
+unfoldable pub block_at : Option ℕ → Spot → P ℕ
+block_at (Some r) t w =
     cond (eqb (statement_at w.tables.statements.words r).code (keyword_code keyword.block)) (go r w) (stop fault.no_block t)
-block_at Missing t w = stop fault.no_block t
+block_at None t w = stop fault.no_block t
 
 -- a name in scope, by its statement's row
 unfoldable pub value : P ℕ

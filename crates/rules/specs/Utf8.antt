@@ -1,9 +1,8 @@
 -- Section 1 of docs/RULES.md. Well-formed UTF-8, as the Unicode Standard's table 3-7 has it.
 -- Assumes nothing.
-use Rattle.std.specs.Prelude.{ℕ, ◌+◌, ◌*◌, ◌%◌, Bool, true, false, cond, ◌&&◌, List, [], ◌∷◌, eqb, leb, length, get_or}
+use Rattle.std.specs.Prelude.{ℕ, ◌+◌, ◌*◌, ◌%◌, Bool, true, false, cond, ◌&&◌, List, [], ◌∷◌, eqb, leb, length, get_or, Result, Ok, Err}
 use Rattle.rules.specs.declared.Range.{Range}
-use Rattle.rules.specs.declared.Checked.{Checked}
-use Rattle.rules.specs.declared.Checked.TheVariants.{WellFormed, IllFormed}
+use Rattle.rules.specs.declared.IllFormed.{IllFormed}
 use Rattle.rules.specs.Bytes.{inside, far}
 
 -- the numbers from one up to and with another
@@ -39,9 +38,16 @@ longest (r ∷ rs) s = cond (lies r s) (length r) (longest rs s)
 unfoldable pub seq_len : List ℕ → ℕ
 seq_len s = longest sequences s
 
+-- what a check of a whole text finds: that it is well-formed, or that its first bad sequence starts at a place
+abbrev pub Checked : Type 0
+Checked = Result (Unit {0}) IllFormed
+
+abbrev pub bad_at : ℕ → Checked
+bad_at p = Err (record { at = p })
+
 -- the whole text is made of well-formed sequences, or the first bad one starts at a place
 abbrev pub checked : List ℕ → Checked
-checked text = cond (eqb (far seq_len 0 text) (length text)) WellFormed (IllFormed (far seq_len 0 text))
+checked text = cond (eqb (far seq_len 0 text) (length text)) (Ok tt) (bad_at (far seq_len 0 text))
 
 -- the code point of a sequence of n bytes at the front of a text (table 3-6)
 abbrev pub follow : ℕ → ℕ → ℕ

@@ -1,4 +1,4 @@
-// The codes of rows, as docs/LAYOUT.md has them.
+// The codes of rows, as docs/LAYOUT.md has them: numbers, since a row is words that a caller lends, and any word can stand in it.
 
 // Items.
 pub const INFER_RESULT: u32 = 1;

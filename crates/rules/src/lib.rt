@@ -2,9 +2,11 @@
 #![tactic(auto)]
 
 pub mod code;
-pub mod fault;
 pub mod keyword;
 pub mod kind;
+mod refusal;
+
+pub use refusal::{Reason, Refusal};
 
 // The numbers from `lo` up to and with `hi`.
 #[derive(Clone, Copy)]
@@ -13,11 +15,10 @@ pub struct Range {
     pub hi: u32,
 }
 
-// What a check of a whole text for UTF-8 finds: at fault is the first byte of the first bad sequence.
-#[derive(Clone, Copy)]
-pub enum Checked {
-    WellFormed,
-    IllFormed(usize),
+// That a text is not well-formed UTF-8: its first bad sequence starts here.
+#[derive(Clone, Copy, Debug, PartialEq, Eq)]
+pub struct IllFormed {
+    pub at: usize,
 }
 
 // What stands at the front of a text that begins with neither white space nor a comment.
@@ -53,12 +54,18 @@ pub enum Lexed {
     Refused(usize),
 }
 
-// What a lexing came to: how many tokens stand before the first refusal, its number, 0 for none, and its place.
-#[derive(Clone, Copy)]
-pub struct LexReport {
-    pub tokens: u32,
+// A refusal: its number, and its place in the text.
+#[derive(Clone, Copy, Debug, PartialEq, Eq)]
+pub struct LexRefusal {
     pub number: u32,
     pub place: u64,
+}
+
+// What a lexing came to: how many tokens stand before the first refusal, and that refusal, if any.
+#[derive(Clone, Copy, Debug, PartialEq, Eq)]
+pub struct LexReport {
+    pub tokens: u32,
+    pub refusal: Option<LexRefusal>,
 }
 
 // A token as the reader keeps it, in the 32 bits of a row's word: its kind, 0 for no token, its first byte and the byte past its last.
@@ -123,13 +130,6 @@ pub struct Attribute {
     pub high: Words,
 }
 
-// A statement's row, or that there is none.
-#[derive(Clone, Copy)]
-pub enum Row {
-    At(u32),
-    Missing,
-}
-
 // What a right side says, but for its operands.
 #[derive(Clone, Copy)]
 pub struct Side {
@@ -146,20 +146,30 @@ pub enum Entry {
     RightHandSides,
 }
 
-// What a public call answers: how many rows of each table a read left, how many bytes a print wrote, or the number of a refusal with its place.
-#[derive(Clone, Copy)]
-pub enum Answer {
-    Read {
-        items: u32,
-        statements: u32,
-        operands: u32,
-        attributes: u32,
-    },
-    Printed(u64),
-    Refused {
-        number: u32,
-        place: u64,
-    },
+// How many rows of each table.
+#[derive(Clone, Copy, Debug, PartialEq, Eq)]
+pub struct Counts {
+    pub items: u32,
+    pub statements: u32,
+    pub operands: u32,
+    pub attributes: u32,
+}
+
+impl Counts {
+    // No row.
+    pub const NONE: Counts = Counts {
+        items: 0,
+        statements: 0,
+        operands: 0,
+        attributes: 0,
+    };
+}
+
+// How many bytes of text and rows of each table a load left.
+#[derive(Clone, Copy, Debug, PartialEq, Eq)]
+pub struct Loaded {
+    pub text: u64,
+    pub rows: Counts,
 }
 
 // The bytes of a stored file's five parts, as its trailer tells them.
@@ -170,27 +180,4 @@ pub struct Lengths {
     pub statements: u32,
     pub operands: u32,
     pub attributes: u32,
-}
-
-// What a store answers: how many bytes it wrote, or the number of a refusal with its place.
-#[derive(Clone, Copy)]
-pub enum StoreAnswer {
-    Stored(u64),
-    Refused { number: u32, place: u64 },
-}
-
-// What a load answers: how many bytes of text and rows of each table it left, or the number of a refusal with its place.
-#[derive(Clone, Copy)]
-pub enum LoadAnswer {
-    Loaded {
-        text: u64,
-        items: u32,
-        statements: u32,
-        operands: u32,
-        attributes: u32,
-    },
-    Refused {
-        number: u32,
-        place: u64,
-    },
 }

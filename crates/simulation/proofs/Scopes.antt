@@ -8,8 +8,7 @@ use native.Mathlib.Omega.{arith}
 use lib.Dec.{eqb}
 use lib.ListN.{length}
 use Rattle.rules.specs.declared.Spot.{Spot}
-use Rattle.rules.specs.declared.Row.{Row}
-use Rattle.rules.specs.declared.Row.TheVariants.{At, Missing}
+use Rattle.std.specs.Prelude.{Option, Some, None}
 use Rattle.rules.specs.Bytes.{same}
 use Rattle.rules.specs.Faults as fault
 use Rattle.rules.specs.Keywords as keyword
@@ -89,9 +88,9 @@ pub record Finds (text : List ℕ) (t : Tables) (n : Name) (l : List Statement) 
   pub block : eqb (statement_at t.statements.words r).code (keyword_code keyword.block) ≡ is_block (side_of n l)
   pub size : is_block (side_of n l) ≡ true → (statement_at t.statements.words r).number ≡ block_size (side_of n l)
 
-abbrev Searched : List ℕ → Tables → Name → List Statement → Row → Type 0
-Searched text t n l (At r) = Finds text t n l r
-Searched text t n l Missing = has n l ≡ false
+abbrev Searched : List ℕ → Tables → Name → List Statement → Option ℕ → Type 0
+Searched text t n l (Some r) = Finds text t n l r
+Searched text t n l None = has n l ≡ false
 
 -- only an assignment has a name
 assigns-name : (n : Name) (s : Statement) → 1 ≤ length n → assigns n s ≡ same (name_of s) n
@@ -108,11 +107,11 @@ searched none n h = refl
 searched {text} {t} {f} (more {k = k} {s = s} {l = l} q r) n h =
     rw q.name (by (same (name_of s) n) refl (find_row text t.statements.words n f k) (searched r n h))
   where
-    older : assigns n s ≡ false → (row : Row) → Searched text t n l row → Searched text t n (s ∷ l) row
-    older e (At i) z = record { there = z.there; held = rw e z.held; name = z.name; block = rw e z.block; size = rw e z.size }
-    older e Missing z = rw e z
+    older : assigns n s ≡ false → (row : Option ℕ) → Searched text t n l row → Searched text t n (s ∷ l) row
+    older e (Some i) z = record { there = z.there; held = rw e z.held; name = z.name; block = rw e z.block; size = rw e z.size }
+    older e None z = rw e z
 
-    by : (b : Bool) → same (name_of s) n ≡ b → (row : Row) → Searched text t n l row → Searched text t n (s ∷ l) (cond b (At (f + k)) row)
+    by : (b : Bool) → same (name_of s) n ≡ b → (row : Option ℕ) → Searched text t n l row → Searched text t n (s ∷ l) (cond b (Some (f + k)) row)
     by true e row z =
         let a : assigns n s ≡ true = assigns-name n s h ∙ e in
         record { there = q.there; held = rw a refl; name = q.name ∙ same_true (name_of s) n e; block = rw a q.block; size = rw a q.size }
@@ -135,10 +134,10 @@ module _ (text : List ℕ) (f : ℕ) (t : Tables) (l : List Statement) (sc : Sco
         nested (rows.expect kind.val_name (world text f s t)) _ _
         (after text f t l _ _ (expect_both text f t l kind.val_name s z) (λ x v y h. by x v y (rows.in_scope x (world text f v t)) (scope_searched x v h.1)))
       where
-        by : (x : Spot) (v : Stand) → Sits text v → (row : Row) → Searched text t (letters text x) l row
+        by : (x : Spot) (v : Stand) → Sits text v → (row : Option ℕ) → Searched text t (letters text x) l row
             → Both Z (bind (rows.known row x (world text f v t)) F) (names.bind (names.known (letters text x) (state text l v)) (λ u. G (letters text x)))
-        by x v y (At r) q = rw (q.held, ← q.name) (k r v y q.there)
-        by x v y Missing q = rw q (halts fault.unknown x)
+        by x v y (Some r) q = rw (q.held, ← q.name) (k r v y q.there)
+        by x v y None q = rw q (halts fault.unknown x)
 
     -- a name that is not in scope yet
     pub name_then : (F : Spot → P X) (G : Name → names.P Y) (s : Stand) → Sits text s
@@ -149,10 +148,10 @@ module _ (text : List ℕ) (f : ℕ) (t : Tables) (l : List Statement) (sc : Sco
         nested (rows.expect kind.val_name (world text f s t)) _ _
         (after text f t l _ _ (expect_both text f t l kind.val_name s z) (λ x v y h. by x v y (rows.in_scope x (world text f v t)) (scope_searched x v h.1)))
       where
-        by : (x : Spot) (v : Stand) → Sits text v → (row : Row) → Searched text t (letters text x) l row
+        by : (x : Spot) (v : Stand) → Sits text v → (row : Option ℕ) → Searched text t (letters text x) l row
             → Both Z (bind (bind (rows.fresh row x (world text f v t)) (λ u w. go x w)) F) (names.bind (names.fresh (letters text x) (state text l v)) (λ u. G (letters text x)))
-        by x v y (At r) q = rw q.held (halts fault.redefined x)
-        by x v y Missing q = rw q (k x v y)
+        by x v y (Some r) q = rw q.held (halts fault.redefined x)
+        by x v y None q = rw q (k x v y)
 
     -- the name of a block in scope
     pub block_then : (F : ℕ → P X) (G : Name → ℕ → names.P Y) (s : Stand) → Sits text s
@@ -164,12 +163,12 @@ module _ (text : List ℕ) (f : ℕ) (t : Tables) (l : List Statement) (sc : Sco
         nested (rows.expect kind.val_name (world text f s t)) _ _
         (after text f t l _ _ (expect_both text f t l kind.val_name s z) (λ x v y h. by x v y (rows.in_scope x (world text f v t)) (scope_searched x v h.1)))
       where
-        by : (x : Spot) (v : Stand) → Sits text v → (row : Row) → Searched text t (letters text x) l row
+        by : (x : Spot) (v : Stand) → Sits text v → (row : Option ℕ) → Searched text t (letters text x) l row
             → Both Z (bind (rows.block_at row x (world text f v t)) F) (names.bind (names.blocked (letters text x) (state text l v)) (G (letters text x)))
-        by x v y (At r) q = rw (q.held, q.block) (fit (is_block (side_of (letters text x) l)) refl)
+        by x v y (Some r) q = rw (q.held, q.block) (fit (is_block (side_of (letters text x) l)) refl)
           where
             fit : (b : Bool) → is_block (side_of (letters text x) l) ≡ b
                 → Both Z (bind (cond b (go r (world text f v t)) (stop fault.no_block x)) F) (names.bind (cond b (names.go (block_size (side_of (letters text x) l)) (state text l v)) names.stop) (G (letters text x)))
             fit true e = rw (← q.size e, ← q.name) (k r v y q.there)
             fit false e = halts fault.no_block x
-        by x v y Missing q = rw q (halts fault.no_block x)
+        by x v y None q = rw q (halts fault.no_block x)

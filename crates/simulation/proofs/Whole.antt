@@ -7,10 +7,9 @@ use native.Mathlib.Omega.{arith}
 use borrow.Author.Tests.{le-ltb}
 use lib.Dec.{ltb}
 use lib.ListN.{length}
-use Rattle.rules.specs.declared.Checked.{Checked}
-use Rattle.rules.specs.declared.Checked.TheVariants.{WellFormed, IllFormed}
+use Rattle.std.specs.Prelude.{Ok, Err}
 use Rattle.rules.specs.declared.Entry.{Entry}
-use Rattle.rules.specs.Utf8.{checked}
+use Rattle.rules.specs.Utf8.{checked, Checked}
 use Rattle.rules.specs.Syntax as syntax
 use Rattle.rules.specs.View.{each, items_of}
 use Rattle.rules.specs.World.{World, Tables, Res}
@@ -59,8 +58,8 @@ module _ (e : Entry) (text : List ℕ) (l : Lent) where
 
   checked-ended : (c : Checked) (t : Tables) → read_checked c e text l ≡ accepted t → Ended (names.list (entry_of e) (suc (length text)) (names.at [] text)) t
   unfolding read_checked
-  checked-ended WellFormed t h = ended (rows.items e (start text l)) (names.list (entry_of e) (suc (length text)) (names.at [] text)) (simulated e text l) t h
-  checked-ended (IllFormed p) t h = absurd (let z : ◌≡◌ {A = ℕ} 0 1 = cc in omega arith)
+  checked-ended (Ok u) t h = ended (rows.items e (start text l)) (names.list (entry_of e) (suc (length text)) (names.at [] text)) (simulated e text l) t h
+  checked-ended (Err p) t h = absurd (let z : ◌≡◌ {A = ℕ} 0 1 = cc in omega arith)
 
   accepted-ended : (t : Tables) → reading e text l ≡ accepted t → Ended (names.list (entry_of e) (suc (length text)) (names.at [] text)) t
   unfolding reading
@@ -84,12 +83,12 @@ module _ (e : Entry) (text : List ℕ) (l : Lent) where
   going m n (full p n') xs h no_seven = absurd (no_seven p.first refl)
   going m n (halts k p) xs h no_seven = absurd (let z : ◌≡◌ {A = ℕ} 0 1 = cc in omega arith)
 
-  well_formed : checked text ≡ WellFormed → length text ≤ 65536 → reading e text l ≡ outcome (rows.items e (start text l))
+  well_formed : checked text ≡ Ok tt → length text ≤ 65536 → reading e text l ≡ outcome (rows.items e (start text l))
   unfolding reading read_checked
   well_formed u s = rw (le-ltb 65536 (length text) s, u) refl
 
   -- What is accepted by names is accepted into tables that have as many rows as the text has bytes.
-  pub accepted_by_rows : (xs : List syntax.Item) → names.reading (entry_of e) text ≡ names.accepted xs → checked text ≡ WellFormed → length text ≤ 65536 → AsManyRows text l → (t : Tables) × (reading e text l ≡ accepted t)
+  pub accepted_by_rows : (xs : List syntax.Item) → names.reading (entry_of e) text ≡ names.accepted xs → checked text ≡ Ok tt → length text ≤ 65536 → AsManyRows text l → (t : Tables) × (reading e text l ≡ accepted t)
   unfolding names.reading
   accepted_by_rows xs h u s rows-lent =
       let same = well_formed u s in

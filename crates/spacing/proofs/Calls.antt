@@ -6,10 +6,10 @@
 use Prim.Native.Nat.{◌≤◌}
 use mathlib.Core.Path.{◌≡◌, refl, sym, ap, ◌∙◌, subst}
 use lib.ListN.{length}
-use Rattle.rules.specs.declared.Checked.TheVariants.{WellFormed}
+use Rattle.std.specs.Prelude.{Ok}
 use Rattle.rules.specs.declared.Entry.{Entry}
-use Rattle.rules.specs.declared.Answer.{Answer}
-use Rattle.rules.specs.declared.Answer.TheVariants as answer
+use Rattle.rules.specs.Answer.{Answer}
+use Rattle.rules.specs.Answer as answer
 use Rattle.rules.specs.Utf8.{checked}
 use Rattle.rules.specs.Printing.{printed_all}
 use Rattle.rules.specs.World.{Tables}
@@ -51,7 +51,7 @@ module _ {e : Entry} where
   answered c d (both_at_end i h k) p q = at_end i h k
 
   -- the theorem
-  pub calls_alike : (c d : AnyCall e) → checked c.text ≡ WellFormed → checked d.text ≡ WellFormed → length c.text ≤ 65536 → length d.text ≤ 65536
+  pub calls_alike : (c d : AnyCall e) → checked c.text ≡ Ok tt → checked d.text ≡ Ok tt → length c.text ≤ 65536 → length d.text ≤ 65536
       → lent_to c ≡ lent_to d → tokens_of c.text ≡ tokens_of d.text → SameAnswer c d (report_of c.answer) (report_of d.answer)
   calls_alike c d p q m n l h =
       let same : SameOutcome c.text d.text (outcome_of c) (outcome_of d) = subst (λ (z : Lent). SameOutcome c.text d.text (outcome_of c) (reading e d.text z)) l (spacing_is_nothing e c.text d.text (lent_to c) p q m n h) in

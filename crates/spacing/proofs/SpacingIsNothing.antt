@@ -9,7 +9,7 @@ use mathlib.Core.Path.{◌≡◌, refl, ap}
 use mathlib.Core.List.{List}
 use borrow.Author.Tests.{le-ltb}
 use lib.ListN.{length}
-use Rattle.rules.specs.declared.Checked.TheVariants.{WellFormed}
+use Rattle.std.specs.Prelude.{Ok}
 use Rattle.rules.specs.declared.Entry.{Entry}
 use Rattle.rules.specs.declared.Token.{Token}
 use Rattle.rules.specs.declared.Lexed.TheVariants.{Found, End, Refused}
@@ -64,11 +64,11 @@ module _ {x y : List ℕ} where
   started_outcome from.no_token = both_accepted _ _ (record { items = refl; statements = refl; operands = refl; attributes = refl; says = refl; prints = refl })
   started_outcome (from.alike m m' h) = both_outcome h
 
-whole : (e : Entry) (text : List ℕ) (l : Lent) → checked text ≡ WellFormed → length text ≤ 65536 → reading e text l ≡ outcome (R.items e (start text l))
+whole : (e : Entry) (text : List ℕ) (l : Lent) → checked text ≡ Ok tt → length text ≤ 65536 → reading e text l ≡ outcome (R.items e (start text l))
 unfolding reading read_checked
 whole e text l h k = rw (le-ltb 65536 (length text) k, h) refl
 
 -- the theorem
-pub spacing_is_nothing : (e : Entry) (x y : List ℕ) (l : Lent) → checked x ≡ WellFormed → checked y ≡ WellFormed → length x ≤ 65536 → length y ≤ 65536 → tokens_of x ≡ tokens_of y
+pub spacing_is_nothing : (e : Entry) (x y : List ℕ) (l : Lent) → checked x ≡ Ok tt → checked y ≡ Ok tt → length x ≤ 65536 → length y ≤ 65536 → tokens_of x ≡ tokens_of y
     → SameOutcome x y (reading e x l) (reading e y l)
 spacing_is_nothing e x y l c d m n h = rw (whole e x l c m, whole e y l d n) (started_outcome (from.started (alike x y h) e l))

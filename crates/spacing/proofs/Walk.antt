@@ -7,8 +7,7 @@ use mathlib.Core.List.{List}
 use lib.Dec.{eqb, ltb}
 use Rattle.rules.specs.declared.Spot.{Spot}
 use Rattle.rules.specs.declared.Span.{Span}
-use Rattle.rules.specs.declared.Row.{Row}
-use Rattle.rules.specs.declared.Row.TheVariants.{At, Missing}
+use Rattle.std.specs.Prelude.{Option, Some, None}
 use Rattle.rules.specs.declared.Attribute.{Attribute}
 use Rattle.rules.specs.declared.Entry.{Entry}
 use Rattle.rules.specs.declared.Entry.TheVariants.{Replacements, LeftHandSides, RightHandSides}
@@ -39,7 +38,7 @@ arms {x} {y} {Q = Q} {m = m} {n = n} {m' = m'} {n' = n'} b c e h k = subst (λ (
 row_alike : {x y v w : List ℕ} → Lined statement_words (Statements x y) v w → (name name' : List ℕ) → name ≡ name' → (first k : ℕ) → R.find_row x v name first k ≡ R.find_row y w name' first k
 unfolding R.find_row
 row_alike l name name' e first zero = refl
-row_alike l name name' e first (suc k) = λ j. cond (same (name_alike l (first + k) j) (e j)) (At (first + k)) (row_alike l name name' e first k j)
+row_alike l name name' e first (suc k) = λ j. cond (same (name_alike l (first + k) j) (e j)) (Some (first + k)) (row_alike l name name' e first k j)
 
 module _ {x y : List ℕ} (alike : Alike x y) where
   -- what is seen of the texts
@@ -171,21 +170,21 @@ module _ {x y : List ℕ} (alike : Alike x y) where
 
   -- Names
 
-  known_pair : (r : Row) (s t : Spot) → Twin x y s t → Pair x y Equal (R.known r s) (R.known r t)
+  known_pair : (r : Option ℕ) (s t : Spot) → Twin x y s t → Pair x y Equal (R.known r s) (R.known r t)
   unfolding R.known
-  known_pair (At r) s t h = gives r r refl
-  known_pair Missing s t h = halts fault.unknown s t h
+  known_pair (Some r) s t h = gives r r refl
+  known_pair None s t h = halts fault.unknown s t h
 
-  fresh_pair : (r : Row) (s t : Spot) → Twin x y s t → Pair x y Equal (R.fresh r s) (R.fresh r t)
+  fresh_pair : (r : Option ℕ) (s t : Spot) → Twin x y s t → Pair x y Equal (R.fresh r s) (R.fresh r t)
   unfolding R.fresh
-  fresh_pair (At r) s t h = halts fault.redefined s t h
-  fresh_pair Missing s t h = gives tt tt refl
+  fresh_pair (Some r) s t h = halts fault.redefined s t h
+  fresh_pair None s t h = gives tt tt refl
 
-  block_at_pair : (r : Row) (s t : Spot) → Twin x y s t → Pair x y Equal (R.block_at r s) (R.block_at r t)
+  block_at_pair : (r : Option ℕ) (s t : Spot) → Twin x y s t → Pair x y Equal (R.block_at r s) (R.block_at r t)
   unfolding R.block_at
-  block_at_pair (At r) s t h =
+  block_at_pair (Some r) s t h =
       record { by = λ w v k. arms _ _ (ap (λ (n : ℕ). eqb n (keyword_code keyword.block)) (code_seen_lem r w v k)) (goes r r w v refl k) (stops fault.no_block s t h) }
-  block_at_pair Missing s t h = halts fault.no_block s t h
+  block_at_pair None s t h = halts fault.no_block s t h
 
   value_pair : Pair x y Equal R.value R.value
   unfolding R.value

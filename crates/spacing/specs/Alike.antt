@@ -4,7 +4,7 @@ use Rattle.std.specs.Prelude.{ℕ, ◌-◌, ◌≡◌, List, length}
 use Rattle.rules.specs.declared.Entry.{Entry}
 use Rattle.rules.specs.declared.Token.{Token}
 use Rattle.rules.specs.declared.Lexed.TheVariants.{Found, End, Refused}
-use Rattle.rules.specs.declared.Answer.{Answer}
+use Rattle.rules.specs.Answer.{Answer}
 use Rattle.rules.specs.Syntax.{Item}
 use Rattle.rules.specs.Tokens.{nth}
 use Rattle.rules.specs.View.{items_of}

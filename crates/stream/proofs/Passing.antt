@@ -11,6 +11,9 @@ use borrow.Author.Tests.{leb-true, leb-false, ltb-false, le-leb, le-ltb, lt-ltb,
 use lib.Dec.{eqb, leb, ltb, eqb-suc-zero}
 use lib.ListN.{length, get_or, take, drop, length-drop, drop_of_length-le}
 use lib.Seq.{drop-cons, drop-drop}
+use Rattle.std.specs.Prelude.{Option, None, Some, fold}
+use Rattle.std.specs.Option.{ForSome}
+use Rattle.std.proofs.lemmas.Option.{none-some, same_Some}
 use Rattle.rules.specs.Bytes.{byte, digit, letter, name_byte, count}
 use Rattle.rules.specs.Tokens.{ident, val_name, int, single, int_start}
 use Rattle.lexer.specs.Blank.{blank}
@@ -27,6 +30,7 @@ use Rattle.stream.specs.declared.skim.Leap.{Leap}
 use Rattle.stream.specs.Steps as step
 use Rattle.stream.specs.Skims.{standing, sure_of, name_of, Passes, Skims, Ready, Leaps}
 use Rattle.stream.proofs.Begins.{more_suc}
+use Rattle.stream.proofs.Split.{split}
 use Rattle.stream.proofs.Meanings.{continuing}
 use Rattle.stream.proofs.Modes.{continues_is}
 
@@ -108,18 +112,18 @@ module _ (k first n : ℕ) (plain : (b : ℕ) → continuing k b ≡ true → b 
       ∙ closing (get_or r m 0) (drop (suc m) r) (i + m) (l + m) (omega arith) g (count_next (continuing k) r c)
       ∙ ap (step.fed (standing (i + m) (step.gapped (step.more n)))) (sym d)
 
--- no byte is passed over
-pub none : (s : List ℕ) → Passes s 0
-none s = record { within = omega arith; onward = λ h. absurd (omega arith) }
+-- what is said of a token that is sure, where none is
+pub none : (P : ℕ → Type 0) → ForSome None P
+none P x e = absurd (none-some _ e)
 
-sure_passes : (s : List ℕ) (m : ℕ) → (m < length s → m ≤ 4096 → Passes s m) → Passes s (sure_of m (length s))
+pub given : (P : ℕ → Type 0) {m : ℕ} → P m → ForSome (Some m) P
+given P p x e = rw (← same_Some _ _ e) p
+
+sure_passes : (s : List ℕ) (m : ℕ) → (m < length s → m ≤ 4096 → Passes s m) → ForSome (sure_of m (length s)) (Passes s)
 sure_passes s m f =
-    by_cases (leb (length s) m)
-    (λ e. rw e (none s))
-    (λ e.
-    by_cases (ltb 4096 m)
-    (λ g. rw (e, g) (none s))
-    (λ g. rw (e, g) (f (leb-false (length s) m e) (ltb-false 4096 m g))))
+    split (λ o. ForSome o (Passes s)) (leb (length s) m)
+    (λ e. none _)
+    (λ e. split (λ o. ForSome o (Passes s)) (ltb 4096 m) (λ g. none _) (λ g. given _ (f (leb-false (length s) m e) (ltb-false 4096 m g))))
 
 module _ (b : ℕ) (r : List ℕ) (a : b ≤ 0x7F) (w : blank b ≡ false) (c : eqb b (byte ";") ≡ false) where
   begun_by : (i n : ℕ) → i ≤ 65536 → step.stepped (standing i (step.gapped n)) b ≡ standing (i + 1) (cond (leb 1 (single b)) (step.gapped (step.more n)) (step.opens i n b))
@@ -129,8 +133,9 @@ module _ (b : ℕ) (r : List ℕ) (a : b ≤ 0x7F) (w : blank b ≡ false) (c : 
   single_passes : leb 1 (single b) ≡ true → Passes (b ∷ r) 1
   single_passes e =
       record {
+        some = omega arith;
         within = omega arith;
-        onward = λ _ i n h. ap (λ (x : Stream). step.fed x r) (begun_by i n (omega arith) ∙ rw e);
+        onward = λ i n h. ap (λ (x : Stream). step.fed x r) (begun_by i n (omega arith) ∙ rw e);
       }
 
   module _ (s : leb 1 (single b) ≡ false) where
@@ -138,9 +143,10 @@ module _ (b : ℕ) (r : List ℕ) (a : b ≤ 0x7F) (w : blank b ≡ false) (c : 
         → 1 + count (continuing k) r < length (b ∷ r) → 1 + count (continuing k) r ≤ 4096 → Passes (b ∷ r) (1 + count (continuing k) r)
     run_passes k plain o q g =
         record {
+          some = omega arith;
           within = omega arith;
           onward =
-              λ _ i n h.
+              λ i n h.
               let m = count (continuing k) r in
               let z : i + 1 + m ≡ i + suc m = omega arith in
               let f : standing (i + 1) (cond (leb 1 (single b)) (step.gapped (step.more n)) (step.opens i n b)) ≡ standing (i + 1) (step.running k i 1 n) = rw (s, o i n) in
@@ -148,11 +154,11 @@ module _ (b : ℕ) (r : List ℕ) (a : b ≤ 0x7F) (w : blank b ≡ false) (c : 
               (ap (λ (x : Stream). step.fed x r) (begun_by i n (omega arith) ∙ f) ∙ tail k i n plain r (i + 1) 1 (omega arith) (omega arith) (omega arith) ∙ rw z);
         }
 
-    word_passes : eqb b (byte "%") ≡ false → eqb b (byte "k") ≡ false → letter b ≡ true → Passes (b ∷ r) (sure_of (1 + count name_byte r) (length (b ∷ r)))
+    word_passes : eqb b (byte "%") ≡ false → eqb b (byte "k") ≡ false → letter b ≡ true → ForSome (sure_of (1 + count name_byte r) (length (b ∷ r))) (Passes (b ∷ r))
     unfolding step.opens
     word_passes p k l = sure_passes (b ∷ r) (1 + count name_byte r) (run_passes ident (low name_byte no_name) (λ i n. rw (p, k, l)))
 
-    int_passes : eqb b (byte "%") ≡ false → eqb b (byte "k") ≡ false → letter b ≡ false → int_start b ≡ true → Passes (b ∷ r) (sure_of (1 + count digit r) (length (b ∷ r)))
+    int_passes : eqb b (byte "%") ≡ false → eqb b (byte "k") ≡ false → letter b ≡ false → int_start b ≡ true → ForSome (sure_of (1 + count digit r) (length (b ∷ r))) (Passes (b ∷ r))
     unfolding step.opens
     int_passes p k l d = sure_passes (b ∷ r) (1 + count digit r) (run_passes int (low digit no_digit) (λ i n. rw (p, k, l, d)))
 
@@ -162,9 +168,10 @@ module _ (b : ℕ) (a : b ≤ 0x7F) (w : blank b ≡ false) (c : eqb b (byte ";"
   unfolding step.opens step.spell step.named
   percent_passes y t e q g =
       record {
+        some = omega arith;
         within = omega arith;
         onward =
-            λ _ i n h.
+            λ i n h.
             let m = count name_byte t in
             let z : i + 1 + 1 + m ≡ i + suc (suc m) = omega arith in
             rw (one-add (suc m))
@@ -174,12 +181,12 @@ module _ (b : ℕ) (a : b ≤ 0x7F) (w : blank b ≡ false) (c : eqb b (byte ";"
             ∙ rw z);
       }
 
-  name_passes : (r : List ℕ) → Passes (b ∷ r) (name_of (b ∷ r))
-  name_passes [] = none (b ∷ [])
+  name_passes : (r : List ℕ) → ForSome (name_of (b ∷ r)) (Passes (b ∷ r))
+  name_passes [] = none _
   name_passes (y ∷ t) =
       by_cases (name_byte y)
       (λ e. rw (e, eqb-suc-zero (count name_byte t)) (sure_passes (b ∷ y ∷ t) (1 + suc (count name_byte t)) (percent_passes y t e)))
-      (λ e. rw e (none (b ∷ y ∷ t)))
+      (λ e. rw e (none _))
 
 -- the same, told of a text by its first byte
 module _ (s : List ℕ) (h : 1 ≤ length s) (a : get_or s 0 0 ≤ 0x7F) (w : blank (get_or s 0 0) ≡ false) (c : eqb (get_or s 0 0) (byte ";") ≡ false) where
@@ -190,15 +197,15 @@ module _ (s : List ℕ) (h : 1 ≤ length s) (a : get_or s 0 0 ≤ 0x7F) (w : bl
   at_single e = subst (λ (x : List ℕ). Passes x 1) whole (single_passes (get_or s 0 0) (drop 1 s) a w c e)
 
   module _ (e : leb 1 (single (get_or s 0 0)) ≡ false) where
-    pub at_name : eqb (get_or s 0 0) (byte "%") ≡ true → {m : ℕ} → m ≡ name_of s → Passes s m
-    at_name p {m} q = rw q (subst (λ (x : List ℕ). Passes x (name_of x)) whole (name_passes (get_or s 0 0) a w c e p (drop 1 s)))
+    pub at_name : eqb (get_or s 0 0) (byte "%") ≡ true → {o : Option ℕ} → o ≡ name_of s → ForSome o (Passes s)
+    at_name p {o} q = rw q (subst (λ (x : List ℕ). ForSome (name_of x) (Passes x)) whole (name_passes (get_or s 0 0) a w c e p (drop 1 s)))
 
     module _ (p : eqb (get_or s 0 0) (byte "%") ≡ false) (k : eqb (get_or s 0 0) (byte "k") ≡ false) where
-      pub at_word : letter (get_or s 0 0) ≡ true → {m n : ℕ} → m ≡ sure_of (1 + n) (length s) → n ≡ count name_byte (drop 1 s) → Passes s m
-      at_word l {m} {n} q d = rw (q, d) (subst (λ (x : List ℕ). Passes x (sure_of (1 + count name_byte (drop 1 s)) (length x))) whole (word_passes (get_or s 0 0) (drop 1 s) a w c e p k l))
+      pub at_word : letter (get_or s 0 0) ≡ true → {o : Option ℕ} {n : ℕ} → o ≡ sure_of (1 + n) (length s) → n ≡ count name_byte (drop 1 s) → ForSome o (Passes s)
+      at_word l {o} {n} q d = rw (q, d) (subst (λ (x : List ℕ). ForSome (sure_of (1 + count name_byte (drop 1 s)) (length x)) (Passes x)) whole (word_passes (get_or s 0 0) (drop 1 s) a w c e p k l))
 
-      pub at_int : letter (get_or s 0 0) ≡ false → int_start (get_or s 0 0) ≡ true → {m n : ℕ} → m ≡ sure_of (1 + n) (length s) → n ≡ count digit (drop 1 s) → Passes s m
-      at_int l i {m} {n} q d = rw (q, d) (subst (λ (x : List ℕ). Passes x (sure_of (1 + count digit (drop 1 s)) (length x))) whole (int_passes (get_or s 0 0) (drop 1 s) a w c e p k l i))
+      pub at_int : letter (get_or s 0 0) ≡ false → int_start (get_or s 0 0) ≡ true → {o : Option ℕ} {n : ℕ} → o ≡ sure_of (1 + n) (length s) → n ≡ count digit (drop 1 s) → ForSome o (Passes s)
+      at_int l i {o} {n} q d = rw (q, d) (subst (λ (x : List ℕ). ForSome (sure_of (1 + count digit (drop 1 s)) (length x)) (Passes x)) whole (int_passes (get_or s 0 0) (drop 1 s) a w c e p k l i))
 
 -- white space at the front
 pub blanks_first : (s : List ℕ) (n : ℕ) {k : ℕ} → k ≡ count blank s
@@ -218,9 +225,9 @@ module _ (s : List ℕ) (at : ℕ) where
 
   pub skim_more : (count₀ n : ℕ) {n' k m : ℕ} → at ≤ length s
       → ((i : ℕ) → i + length s ≤ 65537 → step.fed (standing i (step.gapped count₀)) s ≡ step.fed (standing (i + at) (step.gapped n)) (drop at s))
-      → Passes (take (length s - at) (drop at s)) m → 1 ≤ m → k ≡ count blank (take (length s - (at + m)) (drop (at + m) s)) → n' ≡ step.more n
+      → Passes (take (length s - at) (drop at s)) m → k ≡ count blank (take (length s - (at + m)) (drop (at + m) s)) → n' ≡ step.more n
       → (at + m + k ≤ length s) × ((i : ℕ) → i + length s ≤ 65537 → step.fed (standing i (step.gapped count₀)) s ≡ step.fed (standing (i + (at + m + k)) (step.gapped n')) (drop (at + m + k) s))
-  skim_more count₀ n {k = k} {m = m} l inv p h e g =
+  skim_more count₀ n {k = k} {m = m} l inv p e g =
       let d : drop m (drop at s) ≡ drop (at + m) s = drop-drop m at s in
       let w = token-within p in
       let c = rest-count blank s (at + m) e in
@@ -231,34 +238,16 @@ module _ (s : List ℕ) (at : ℕ) where
             let v = length-drop (at + m) s in
             let z : i + at + m + count blank (drop (at + m) s) ≡ i + (at + m + count blank (drop (at + m) s)) = omega arith in
             inv i b
-            ∙ t.onward h (i + at) n (omega arith)
+            ∙ t.onward (i + at) n (omega arith)
             ∙ ap (step.fed (standing (i + at + m) (step.gapped (step.more n)))) d
             ∙ blanks_pass (drop (at + m) s) (i + at + m) (step.more n) (omega arith)
             ∙ rw (g, c, z, drop-drop (count blank (drop (at + m) s)) (at + m) s),
       )
 
--- one byte of a part, and the end of it
-module _ (s : Stream) (l : List ℕ) (i : ℕ) where
-  pub fed_more : i < length l → {t : Stream} → t ≡ step.stepped s (get_or l i 0) → step.fed s (drop i l) ≡ step.fed t (drop (i + 1) l)
-  fed_more h e = rw (e, add-one, drop-cons l i 0 h)
-
-  pub fed-end : length l ≤ i → step.fed s (drop i l) ≡ s
-  fed-end h = rw (drop_of_length-le l h)
-
--- a state that is ready is between tokens
-pub ready_passes : (s : Stream) (l : List ℕ) (k : Skimmed) {x : Lexing} → Ready s (length l) → Skims l s.lexing.count k → x ≡ step.gapped k.count
-    → step.fed s l ≡ step.fed (standing (s.seen + k.past) x) (drop k.past l)
-ready_passes s l k r p e =
-    let z : s ≡ standing s.seen (step.gapped s.lexing.count) =
-    ap (λ (q : Sequence). record { seen = s.seen; sequence = q; lexing = s.lexing }) r.between ∙ ap (λ (m : Mode). standing s.seen (record { mode = m; count = s.lexing.count })) r.gap in
-    ap (λ (t : Stream). step.fed t l) z ∙ p.onward s.seen r.room ∙ ap (λ (t : Lexing). step.fed (standing (s.seen + k.past) t) (drop k.past l)) (sym e)
-
--- a leap further on in a part
-pub leap_more : (s : Stream) (l : List ℕ) (i : ℕ) (r : Leap) → i ≤ length l → Leaps s (take (length l - i) (drop i l)) r
-    → (i + r.past ≤ length l) × (step.fed s (drop i l) ≡ step.fed r.state (drop (i + r.past) l))
-leap_more s l i r h p =
-    let t = subst (λ (x : List ℕ). Leaps s x r) (rest l i) p in
-    (omega (arith, t.within, length-drop i l), t.onward ∙ ap (step.fed r.state) (drop-drop r.past i l))
+-- a part fed byte by byte is a fold
+pub folded : (l : List ℕ) (s : Stream) → fold step.stepped s l ≡ step.fed s l
+folded [] s = refl
+folded (b ∷ l) s = folded l (step.stepped s b)
 
 -- past the longest text a part changes nothing
 pub fed_full : (l : List ℕ) (s : Stream) → 65536 < s.seen → step.fed s l ≡ s

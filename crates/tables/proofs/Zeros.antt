@@ -1,42 +1,25 @@
 -- Zeros from a place to the end of a list.
 -- Assumes nothing.
-use Prim.Native.Nat.{ℕ, suc, ◌≤◌, ◌<◌, ◌-◌, ◌+◌}
-use mathlib.Core.Path.{◌≡◌, sym, ◌∙◌, ap}
-use mathlib.Core.List.{List, [], ◌∷◌, ◌++◌, append_assoc, append-nil}
+use Prim.Native.Nat.{ℕ, ◌≤◌, ◌-◌}
+use mathlib.Core.Path.{◌≡◌}
+use mathlib.Core.List.{List, [], append-nil}
 use native.Mathlib.Omega.{arith}
-use native.Mathlib.Numerals.{add-one}
-use lib.ListN.{length, length-append, length-take, length-replicate, drop, take, get_or, set, replicate, drop_of_length-le, take-append-drop, replicate-append-replicate}
-use lib.Seq.{drop-cons, set_at, length-take-le, append_snoc}
+use borrow.Rule.Slice.PartMut.{put_mid}
+use lib.ListN.{length, length-take, length-drop, drop, take, replicate, drop_of_length-le}
+use lib.Seq.{take_all}
 use Rattle.rules.specs.Answers.{padded}
 
--- t with zeros from f to i
-unfoldable pub mid : ℕ → ℕ → List ℕ → List ℕ
-mid f i t = (take f t ++ replicate (i - f) 0) ++ drop i t
+module _ (f : ℕ) (t : List ℕ) where
+  -- zeros stored from f on, and f past the end
+  pub zeros_behind : (ys : List ℕ) → f ≤ length t → ys ≡ replicate (length (take (length t - f) (drop f t))) 0 → put_mid f (length t - f) t ys ≡ padded (length t) (take f t)
+  unfolding padded
+  zeros_behind ys low e =
+      let size : length (take (length t - f) (drop f t)) ≡ length t - length (take f t) = simp (length-take, length-drop) (omega arith) in
+      let none : drop (length t - f) (drop f t) ≡ [] = drop_of_length-le (drop f t) (simp length-drop (omega arith)) in
+      rw (e, size) (simp (none, append-nil))
 
-module _ (t : List ℕ) (f : ℕ) where
-  pub clear_start : t ≡ mid f f t
-  unfolding mid
-  clear_start =
-      let z : f - f ≡ 0 = omega arith in
-      sym (simp (z, append-nil) (take-append-drop f t))
-
-  module _ (i : ℕ) where
-    pub clear_step : f ≤ i → i < length t → set (mid f i t) i 0 ≡ mid f (i + 1) t
-    unfolding mid
-    clear_step le lt =
-        let front : length (take f t) ≡ f = length-take-le f t (omega arith) in
-        let len : length (take f t ++ replicate (i - f) 0) ≡ i = simp (length-append, length-replicate) (omega arith) in
-        let more : i + 1 - f ≡ (i - f) + 1 = omega arith in
-        let rep : replicate {A = ℕ} (i + 1 - f) 0 ≡ replicate (i - f) 0 ++ (0 ∷ []) =
-        ap (λ (k : ℕ). replicate {A = ℕ} k 0) more ∙ sym (replicate-append-replicate (i - f) 1 0) in
-        ap (λ (l : List ℕ). set ((take f t ++ replicate (i - f) 0) ++ l) i 0) (drop-cons t i 0 lt)
-        ∙ set_at (take f t ++ replicate (i - f) 0) (get_or t i 0) (drop (suc i) t) 0 i len
-        ∙ sym (append_snoc (take f t ++ replicate (i - f) 0) 0 (drop (suc i) t))
-        ∙ ap (λ (l : List ℕ). l ++ drop (suc i) t) (append_assoc (take f t) (replicate (i - f) 0) (0 ∷ []) ∙ ap (λ (r : List ℕ). take f t ++ r) (sym rep))
-        ∙ ap (λ (k : ℕ). (take f t ++ replicate (i + 1 - f) 0) ++ drop k t) (sym (add-one i))
-
-    pub clear_end : length t ≤ i → i - f ≤ length t - f → mid f i t ≡ padded (length t) (take f t)
-    unfolding mid padded
-    clear_end ge le =
-        let size : i - f ≡ length t - length (take f t) = simp length-take (omega arith) in
-        simp (drop_of_length-le t ge, append-nil, size)
+  pub no_zeros : length t ≤ f → t ≡ padded (length t) (take f t)
+  unfolding padded
+  no_zeros past =
+      let none : length t - length t ≡ 0 = omega arith in
+      simp (take_all _ t past, none, append-nil)

@@ -1,39 +1,65 @@
-// Rows of the four tables from their words, with their fields by name. Any words are a row; a word past the end of a table is 0. The rows that are read
-// most are read by one test where they stand within their table.
-ghost use Rattle.std.specs.Prelude.{◌≡◌, ◌≤◌, get_or};
+// Rows of the four tables from their words, with their fields by name, whatever the words stand in. Any words are a row; a word past the end of a table is
+// 0. The rows that are read most are read by one test where they stand within their table.
+ghost use Rattle.std.specs.Prelude.{◌≡◌, ℕ, ◌≤◌, ◌<◌, List, length, get_or};
 ghost use Rattle.rules.specs.Rows.{field as field_of, span_at, words_at, item_at, statement_at, operand_at, attribute_at};
 
 use crate::{ATTRIBUTE_LENGTH, ITEM_LENGTH, OPERAND_LENGTH, STATEMENT_LENGTH};
 use rules::{Attribute, Item, Operand, Span, Statement, Words};
 
+// A table that is lent: its words stand in memory as words, or as something that they are read from.
+pub trait Table: Copy {
+    ghost words: { Self → List ℕ };
+
+    // How many words the table has.
+    fn count(self) -> usize
+        ensures { result ≡ length (words self) };
+
+    // Word k of them.
+    fn word(self, k: usize) -> u32
+        requires { k < length (words self) }
+        ensures { result ≡ get_or (words self) k 0 };
+}
+
+impl Table for &[u32] {
+    ghost words = { λ t. t.now };
+
+    fn count(self) -> usize {
+        self.len()
+    }
+
+    fn word(self, k: usize) -> u32 {
+        self[k]
+    }
+}
+
 // A word of a table; 0 past its end.
-fn word_at(table: &[u32], at: usize) -> u32
-    ensures { result ≡ get_or table.now at 0 }
+pub fn word_at<T: Table>(table: T, at: usize) -> u32
+    ensures { result ≡ get_or (T.words table) at 0 }
 {
-    if at < table.len() {
-        return table[at];
+    if at < table.count() {
+        return table.word(at);
     }
     0
 }
 
 // Word j of row i of a table with rows of a length.
-fn field(table: &[u32], length: usize, i: u32, j: usize) -> u32
+fn field<T: Table>(table: T, length: usize, i: u32, j: usize) -> u32
     requires { (length ≤ 11) × (j ≤ 11) }
-    ensures { result ≡ field_of length table.now i j }
+    ensures { result ≡ field_of length (T.words table) i j }
 {
     word_at(table, i as usize * length + j)
 }
 
 // Two words from word j on, as a span.
-pub fn span_at(table: &[u32], length: usize, i: u32, j: usize) -> Span
+pub fn span_at<T: Table>(table: T, length: usize, i: u32, j: usize) -> Span
     requires { (length ≤ 11) × (j ≤ 8) }
-    ensures { result ≡ span_at length table.now i j }
+    ensures { result ≡ span_at length (T.words table) i j }
 {
     let at = i as usize * length + j;
-    if at + 1 < table.len() {
+    if at + 1 < table.count() {
         return Span {
-            first: table[at],
-            past: table[at + 1],
+            first: table.word(at),
+            past: table.word(at + 1),
         };
     }
     Span {
@@ -43,9 +69,9 @@ pub fn span_at(table: &[u32], length: usize, i: u32, j: usize) -> Span
 }
 
 // Four words from word j on, as 128 bits.
-fn words_at(table: &[u32], length: usize, i: u32, j: usize) -> Words
+fn words_at<T: Table>(table: T, length: usize, i: u32, j: usize) -> Words
     requires { (length ≤ 11) × (j ≤ 8) }
-    ensures { result ≡ words_at length table.now i j }
+    ensures { result ≡ words_at length (T.words table) i j }
 {
     Words {
         a: field(table, length, i, j),
@@ -56,8 +82,8 @@ fn words_at(table: &[u32], length: usize, i: u32, j: usize) -> Words
 }
 
 // Item row i.
-pub fn item_at(items: &[u32], i: u32) -> Item
-    ensures { result ≡ item_at items.now i }
+pub fn item_at<T: Table>(items: T, i: u32) -> Item
+    ensures { result ≡ item_at (T.words items) i }
 {
     Item {
         kind: field(items, ITEM_LENGTH, i, 0),
@@ -70,27 +96,27 @@ pub fn item_at(items: &[u32], i: u32) -> Item
 }
 
 // Statement row i.
-pub fn statement_at(statements: &[u32], i: u32) -> Statement
-    ensures { result ≡ statement_at statements.now i }
+pub fn statement_at<T: Table>(statements: T, i: u32) -> Statement
+    ensures { result ≡ statement_at (T.words statements) i }
 {
     let at = i as usize * STATEMENT_LENGTH;
-    if at + STATEMENT_LENGTH <= statements.len() {
+    if at + STATEMENT_LENGTH <= statements.count() {
         return Statement {
-            code: statements[at],
+            code: statements.word(at),
             name: Span {
-                first: statements[at + 1],
-                past: statements[at + 2],
+                first: statements.word(at + 1),
+                past: statements.word(at + 2),
             },
-            width: statements[at + 3],
-            number: statements[at + 4],
-            block: statements[at + 5],
+            width: statements.word(at + 3),
+            number: statements.word(at + 4),
+            block: statements.word(at + 5),
             operands: Span {
-                first: statements[at + 6],
-                past: statements[at + 7],
+                first: statements.word(at + 6),
+                past: statements.word(at + 7),
             },
             attributes: Span {
-                first: statements[at + 8],
-                past: statements[at + 9],
+                first: statements.word(at + 8),
+                past: statements.word(at + 9),
             },
         };
     }
@@ -106,20 +132,20 @@ pub fn statement_at(statements: &[u32], i: u32) -> Statement
 }
 
 // Operand row i.
-pub fn operand_at(operands: &[u32], i: u32) -> Operand
-    ensures { result ≡ operand_at operands.now i }
+pub fn operand_at<T: Table>(operands: T, i: u32) -> Operand
+    ensures { result ≡ operand_at (T.words operands) i }
 {
     let at = i as usize * OPERAND_LENGTH;
-    if at + OPERAND_LENGTH <= operands.len() {
+    if at + OPERAND_LENGTH <= operands.count() {
         return Operand {
-            code: operands[at],
-            row: operands[at + 1],
-            width: operands[at + 2],
+            code: operands.word(at),
+            row: operands.word(at + 1),
+            width: operands.word(at + 2),
             bits: Words {
-                a: operands[at + 3],
-                b: operands[at + 4],
-                c: operands[at + 5],
-                d: operands[at + 6],
+                a: operands.word(at + 3),
+                b: operands.word(at + 4),
+                c: operands.word(at + 5),
+                d: operands.word(at + 6),
             },
         };
     }
@@ -132,8 +158,8 @@ pub fn operand_at(operands: &[u32], i: u32) -> Operand
 }
 
 // Attribute row i.
-pub fn attribute_at(attributes: &[u32], i: u32) -> Attribute
-    ensures { result ≡ attribute_at attributes.now i }
+pub fn attribute_at<T: Table>(attributes: T, i: u32) -> Attribute
+    ensures { result ≡ attribute_at (T.words attributes) i }
 {
     Attribute {
         code: field(attributes, ATTRIBUTE_LENGTH, i, 0),
@@ -144,22 +170,22 @@ pub fn attribute_at(attributes: &[u32], i: u32) -> Attribute
 }
 
 // What statement row i is, by its code.
-pub fn code_at(statements: &[u32], i: u32) -> u32
-    ensures { result ≡ (statement_at statements.now i).code }
+pub fn code_at<T: Table>(statements: T, i: u32) -> u32
+    ensures { result ≡ (statement_at (T.words statements) i).code }
 {
     field(statements, STATEMENT_LENGTH, i, 0)
 }
 
 // Where the name of statement row i stands.
-pub fn name_at(statements: &[u32], i: u32) -> Span
-    ensures { result ≡ (statement_at statements.now i).name }
+pub fn name_at<T: Table>(statements: T, i: u32) -> Span
+    ensures { result ≡ (statement_at (T.words statements) i).name }
 {
     span_at(statements, STATEMENT_LENGTH, i, 1)
 }
 
 // The number of statement row i.
-pub fn number_at(statements: &[u32], i: u32) -> u32
-    ensures { result ≡ (statement_at statements.now i).number }
+pub fn number_at<T: Table>(statements: T, i: u32) -> u32
+    ensures { result ≡ (statement_at (T.words statements) i).number }
 {
     field(statements, STATEMENT_LENGTH, i, 4)
 }

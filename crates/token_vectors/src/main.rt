@@ -2,34 +2,33 @@
 // A line spells a text: `\xHH` is a byte by its hexadecimal digits in capitals, any other byte is itself.
 #![tactic(auto)]
 
-mod spelling;
-
 ghost use Rattle.std.specs.Prelude.{◌≤◌, ◌<◌, length};
 
-use rules::{Cursor, Lexed, Token};
+use rules::{Cursor, Lexed};
+use vector_lines::{Lines, Spelt, capital_digit, say, spell};
 
 // Reads up to 65,536 bytes of lines.
 fn main(rt: HostRuntime) {
     let mut input = [0u8; 65536];
     let n = input::read_full(&mut rt.stdin(), &mut input);
-    print_lines(&rt, &input[..n]);
-}
-
-// Prints the tokens of each line.
-fn print_lines(rt: &impl Print, lines: &[u8]) {
-    let mut i = 0;
-    while i < lines.len() {
-        let past = i + scan::line_len(&lines[i..]);
-        print_line(rt, &lines[i..past]);
-        i = past + 1;
+    for line in Lines::of(&input[..n]) {
+        print_line(&rt, line);
     }
 }
 
 // Prints the tokens of the text that a line spells, as far as it has 4,096 bytes.
 fn print_line(rt: &impl Print, line: &[u8]) {
     let mut text = [0u8; 4096];
-    let n = spelling::spell(line, &mut text);
-    print_tokens(rt, &text[..n]);
+    print_tokens(rt, spell(line, &mut text, first));
+}
+
+// What the rest of a line spells first.
+fn first(rest: &[u8]) -> Spelt {
+    match rest {
+        [b'\\', _, a, b, ..] => Spelt::once(capital_digit(*a) * 16 + capital_digit(*b), 4),
+        [byte, ..] => Spelt::once(*byte, 1),
+        [] => Spelt::once(0, 1),
+    }
 }
 
 // Prints the tokens of a text.
@@ -47,38 +46,16 @@ fn print_next(rt: &impl Print, text: &[u8], at: usize) -> usize
 {
     match lexer::next_token(text, Cursor { at }) {
         Lexed::Found(token) => {
-            print_token(rt, token);
+            let _ = print!(rt; "{} {} {};", token.kind as usize, token.first, token.past);
             token.past
         }
         Lexed::End => {
-            let _ = rt.write_all(b"end\n");
+            say(rt, "end");
             text.len() + 1
         }
         Lexed::Refused(place) => {
-            print_refused(rt, place);
+            say(rt, format_args!("refused {place}"));
             text.len() + 1
         }
     }
-}
-
-// Prints a token's kind and its two places.
-fn print_token(rt: &impl Print, token: Token) {
-    print_number(rt, token.kind as usize);
-    let _ = rt.write_all(b" ");
-    print_number(rt, token.first);
-    let _ = rt.write_all(b" ");
-    print_number(rt, token.past);
-    let _ = rt.write_all(b";");
-}
-
-// Prints where a text is refused.
-fn print_refused(rt: &impl Print, place: usize) {
-    let _ = rt.write_all(b"refused ");
-    print_number(rt, place);
-    let _ = rt.write_all(b"\n");
-}
-
-// Prints a number in decimal.
-fn print_number(rt: &impl Print, n: usize) {
-    let _ = rt.print(n as u64);
 }

@@ -9,9 +9,9 @@ use mathlib.Core.List.{List, [], ◌∷◌}
 use lib.ListN.{length, get_or, drop, take, length-drop}
 use lib.Seq.{drop-drop}
 use borrow.Author.Tests.{leb-true, le-leb, eq-eqb, ne_eqb}
-use Rattle.rules.specs.declared.Checked.TheVariants.{WellFormed, IllFormed}
+use Rattle.std.specs.Prelude.{Ok}
 use Rattle.rules.specs.Bytes.{count, far}
-use Rattle.rules.specs.Utf8.{seq_len, checked}
+use Rattle.rules.specs.Utf8.{seq_len, checked, bad_at}
 use Rattle.laws.proofs.Runs.{rest, count-le, count_more, far_more, far-stop, far-end}
 use Rattle.laws.proofs.Ranges.{seq_len-ascii}
 use Rattle.laws.proofs.Within.{seq_len-le}
@@ -53,7 +53,7 @@ pub reached_none : (text : List ℕ) → Reached text 0
 reached_none text = record { within = omega arith; onward = sym (zero-add _) }
 
 module _ {text : List ℕ} {i : ℕ} (r : Reached text i) where
-  pub reached-end : length text ≤ i → WellFormed ≡ checked text
+  pub reached-end : length text ≤ i → Ok tt ≡ checked text
   reached-end h =
       let e : far seq_len 0 text ≡ length text = omega (arith, r.within, r.onward, far-end seq_len seq_len-le text i 0 h) in
       rw (e, eq-eqb (length text) (length text) refl)
@@ -73,7 +73,7 @@ module _ {text : List ℕ} {i : ℕ} (r : Reached text i) where
           onward = omega (arith, r.onward, rw (drop-drop n i text) at here.onward);
         }
 
-    pub reached_bad : i < length text → n ≡ 0 → IllFormed i ≡ checked text
+    pub reached_bad : i < length text → n ≡ 0 → bad_at i ≡ checked text
     reached_bad h z =
         let e : far seq_len 0 text ≡ i = omega (arith, r.onward, here.some z) in
         rw (e, ne_eqb i (length text) (λ q. omega arith))

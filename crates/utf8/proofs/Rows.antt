@@ -1,7 +1,7 @@
 -- Table 3-7 read as the code reads it: the first byte alone picks the row, since the rows' first bytes stand in order; then one byte after the other is looked at.
 -- Assumes nothing.
-use Prim.Native.Nat.{ℕ, suc, ◌+◌, ◌≤◌, ◌<◌}
-use native.Mathlib.Nat.{lt_of_lt_of_le, lt_of_le_of_lt}
+use Prim.Native.Nat.{ℕ, zero, suc, ◌+◌, ◌≤◌, ◌<◌}
+use native.Mathlib.Nat.{lt_of_lt_of_le, lt_of_le_of_lt, le_of_suc-le-suc, not-suc-le-zero}
 use native.Mathlib.Numerals.{add-one}
 use native.Mathlib.Omega.{arith}
 use mathlib.Core.Path.{◌≡◌, refl, ap, ◌∙◌}
@@ -15,6 +15,10 @@ use Rattle.rules.specs.declared.Range.{Range}
 use Rattle.rules.specs.Bytes.{inside}
 use Rattle.rules.specs.Utf8.{◌to◌, sequences, lies, longest, seq_len}
 use Rattle.laws.proofs.Tests.{and_left, and_right}
+use Rattle.std.specs.List.{list_all}
+use Rattle.std.specs.Prelude.{unwrap_or}
+use Rattle.std.specs.Bool.{then_some}
+use Rattle.utf8.specs.Sequences.{going_on}
 use Rattle.laws.proofs.Ranges.{inside_yes, inside_under, inside_over}
 use Rattle.laws.proofs.Within.{lies-le}
 
@@ -103,3 +107,13 @@ module _ (n : ℕ) (s : List ℕ) (i lo hi : ℕ) (rs : List Range) where
 
   pub hits : {m : ℕ} → i < length s → inside lo hi (get_or s i 0) ≡ true → m ≡ cond (lies rs (drop (i + 1) s)) n 0 → m ≡ cond (lies (lo to hi ∷ rs) (drop i s)) n 0
   hits h e r = rw (drop-cons s i 0 h, e, ← add-one i) r
+
+-- k bytes that go on a sequence, looked at one after the other
+pub length-going_on : (k : ℕ) → length (going_on k) ≡ k
+length-going_on zero = refl
+length-going_on (suc k) = ap suc (length-going_on k)
+
+pub goes_on : (k : ℕ) (s : List ℕ) → k ≤ length s → list_all (inside 0x80 0xBF) (take k s) ≡ lies (going_on k) s
+goes_on zero s h = refl
+goes_on (suc k) [] h = absurd (not-suc-le-zero h)
+goes_on (suc k) (b ∷ s) h = ap (λ (t : Bool). inside 0x80 0xBF b && t) (goes_on k s (le_of_suc-le-suc h))

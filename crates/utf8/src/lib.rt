@@ -1,79 +1,49 @@
 // Well-formed UTF-8: the sequence at the front of a text, its code point, and the check of a whole text.
 #![tactic(auto)]
 
-ghost use Rattle.std.specs.Prelude.{max, ◌≡◌, cond, [], ◌∷◌, drop, get_or};
+ghost use Rattle.std.specs.Prelude.{◌≡◌, ◌≤◌, ◌<◌, ◌-◌, cond, ◌∷◌, drop, get_or, unwrap_or, IfSome};
 ghost use Rattle.rules.specs.Bytes.{count};
 ghost use Rattle.rules.specs.Utf8.{◌to◌, lies, seq_len, code_point, checked};
+ghost use Rattle.utf8.specs.Sequences.{going_on};
 ghost use Rattle.utf8.specs.Ascii.{ascii, all_ascii, Begins, Passes};
 
-use rules::Checked;
+use rules::IllFormed;
 
-// 2 where the second byte of s is from lo to hi; 0 otherwise.
-fn two(s: &[u8], lo: u8, hi: u8) -> usize
-    ensures { result ≡ cond (lies (lo to hi ∷ []) (drop 1 s.now)) 2 0 }
+// n where the second byte of s is from lo to hi and those after it, up to the n-th, go on a sequence.
+fn sequence(n: usize, s: &[u8], lo: u8, hi: u8) -> Option<usize>
+    requires { 2 ≤ n }
+    ensures length { unwrap_or result 0 ≡ cond (lies (lo to hi ∷ going_on (n - 2)) (drop 1 s.now)) n 0 }
+    ensures some { IfSome result (λ n. 0 < n) }
 {
-    if s.len() < 2 {
-        return 0;
-    }
-    if scan::inside(lo, hi, s[1]) {
-        return 2;
-    }
-    0
-}
-
-// 3 where the second byte of s is from lo to hi and the third goes on a sequence; 0 otherwise.
-fn three(s: &[u8], lo: u8, hi: u8) -> usize
-    ensures { result ≡ cond (lies (lo to hi ∷ 0x80 to 0xBF ∷ []) (drop 1 s.now)) 3 0 }
-{
-    if s.len() < 3 {
-        return 0;
+    if s.len() < n {
+        return None;
     }
     if !scan::inside(lo, hi, s[1]) {
-        return 0;
+        return None;
     }
-    if scan::inside(0x80, 0xBF, s[2]) {
-        return 3;
-    }
-    0
+    let goes_on = s[2..n].iter().all(|b| scan::inside(0x80, 0xBF, *b));
+    goes_on.then_some(n)
 }
 
-// 4 where the second byte of s is from lo to hi and the third and fourth go on a sequence; 0 otherwise.
-fn four(s: &[u8], lo: u8, hi: u8) -> usize
-    ensures { result ≡ cond (lies (lo to hi ∷ 0x80 to 0xBF ∷ 0x80 to 0xBF ∷ []) (drop 1 s.now)) 4 0 }
+// The bytes of the well-formed sequence at the front of s, where there is one.
+pub fn seq_len(s: &[u8]) -> Option<usize>
+    ensures length { unwrap_or result 0 ≡ seq_len s.now }
+    ensures some { IfSome result (λ n. 0 < n) }
 {
-    if s.len() < 4 {
-        return 0;
-    }
-    if !scan::inside(lo, hi, s[1]) {
-        return 0;
-    }
-    if !scan::inside(0x80, 0xBF, s[2]) {
-        return 0;
-    }
-    if scan::inside(0x80, 0xBF, s[3]) {
-        return 4;
-    }
-    0
-}
-
-// The bytes of the well-formed sequence at the front of s; 0 where there is none.
-pub fn seq_len(s: &[u8]) -> usize
-    ensures { result ≡ seq_len s.now }
-{
-    if s.len() < 1 {
-        return 0;
+    if s.is_empty() {
+        return None;
     }
     match s[0] {
-        0x00..=0x7F => 1,
-        0xC2..=0xDF => two(s, 0x80, 0xBF),
-        0xE0 => three(s, 0xA0, 0xBF),
-        0xE1..=0xEC => three(s, 0x80, 0xBF),
-        0xED => three(s, 0x80, 0x9F),
-        0xEE..=0xEF => three(s, 0x80, 0xBF),
-        0xF0 => four(s, 0x90, 0xBF),
-        0xF1..=0xF3 => four(s, 0x80, 0xBF),
-        0xF4 => four(s, 0x80, 0x8F),
-        _ => 0,
+        0x00..=0x7F => Some(1),
+        0xC2..=0xDF => sequence(2, s, 0x80, 0xBF),
+        0xE0 => sequence(3, s, 0xA0, 0xBF),
+        0xE1..=0xEC => sequence(3, s, 0x80, 0xBF),
+        0xED => sequence(3, s, 0x80, 0x9F),
+        0xEE..=0xEF => sequence(3, s, 0x80, 0xBF),
+        0xF0 => sequence(4, s, 0x90, 0xBF),
+        0xF1..=0xF3 => sequence(4, s, 0x80, 0xBF),
+        0xF4 => sequence(4, s, 0x80, 0x8F),
+        _ => None,
     }
 }
 
@@ -81,10 +51,7 @@ pub fn seq_len(s: &[u8]) -> usize
 fn byte_at(s: &[u8], i: usize) -> u8
     ensures { result ≡ get_or s.now i 0 }
 {
-    if i < s.len() {
-        return s[i];
-    }
-    0
+    s.get(i).copied().unwrap_or(0)
 }
 
 // The code point of a sequence of n bytes at the front of s.
@@ -107,23 +74,11 @@ pub fn code_point(n: usize, s: &[u8]) -> u32
     ((a % 8 * 64 + b) * 64 + c) * 64 + d
 }
 
-// The greater of two bytes.
-fn greater(a: u8, b: u8) -> u8
-    ensures { result ≡ max a b }
-{
-    if a < b { b } else { a }
-}
-
 // Whether all of s is ASCII. No test leaves the loop early, so that many bytes can be looked at in one go.
 fn all_ascii(s: &[u8]) -> bool
     ensures { result ≡ all_ascii s.now }
 {
-    let mut greatest = 0;
-    let mut i = 0;
-    while i < s.len() {
-        greatest = greater(greatest, s[i]);
-        i += 1;
-    }
+    let greatest = s.iter().fold(0, |greatest, b| u8::max(greatest, *b));
     greatest <= 0x7F
 }
 
@@ -145,37 +100,34 @@ fn ascii_blocks(s: &[u8]) -> usize
 fn ascii_len(s: &[u8]) -> usize
     ensures { result ≡ count ascii s.now }
 {
-    let mut i = ascii_blocks(s);
-    while i < s.len() && s[i] <= 0x7F {
-        i += 1;
-    }
-    i
+    let n = ascii_blocks(s);
+    n + s[n..].iter().take_while(|b| b.is_ascii()).count()
 }
 
-// The bytes of a run of ASCII or of one other sequence at the front of s; 0 where there is neither.
-fn run_len(s: &[u8]) -> usize
-    ensures { Passes s.now result }
+// The bytes of a run of ASCII or of one other sequence at the front of s, where there is either.
+fn run_len(s: &[u8]) -> Option<usize>
+    ensures passes { Passes s.now (unwrap_or result 0) }
+    ensures some { IfSome result (λ n. 0 < n) }
 {
-    if s.len() < 1 {
-        return 0;
+    if s.is_empty() {
+        return None;
     }
     if s[0] <= 0x7F {
-        return ascii_len(s);
+        return Some(ascii_len(s));
     }
     seq_len(s)
 }
 
-// Whether a whole text is well-formed, or where its first bad sequence starts.
-pub fn check(text: &[u8]) -> Checked
+// That a whole text is well-formed, or where its first bad sequence starts.
+pub fn check(text: &[u8]) -> Result<(), IllFormed>
     ensures { result ≡ checked text.now }
 {
     let mut i = 0;
     while i < text.len() {
-        let n = run_len(&text[i..]);
-        if n == 0 {
-            return Checked::IllFormed(i);
-        }
+        let Some(n) = run_len(&text[i..]) else {
+            return Err(IllFormed { at: i });
+        };
         i += n;
     }
-    Checked::WellFormed
+    Ok(())
 }

@@ -8,27 +8,21 @@
 mod loads;
 mod stores;
 
-// Reads up to 524,288 bytes of lines.
+use vector_lines::{Fields, Lines};
+
+// Answers each line of up to 524,288 bytes.
 fn main(rt: HostRuntime) {
     let mut input = [0u8; 524288];
     let n = input::read_full(&mut rt.stdin(), &mut input);
-    answer_all(&rt, &input[..n]);
-}
-
-// Answers line after line.
-fn answer_all(rt: &impl Print, lines: &[u8]) {
-    let mut i = 0;
-    while i < lines.len() {
-        let past = i + scan::line_len(&lines[i..]);
-        answer(rt, &lines[i..past]);
-        i = past + 1;
+    for line in Lines::of(&input[..n]) {
+        answer(&rt, Fields::of(line));
     }
 }
 
 // Answers the question of a line.
-fn answer(rt: &impl Print, line: &[u8]) {
-    match vector_lines::letter(line, 0) {
-        b'S' => stores::answer_store(rt, line),
-        _ => loads::answer_load(rt, line),
+fn answer(rt: &impl Print, mut fields: Fields<'_>) {
+    match fields.letter() {
+        b'S' => stores::answer_store(rt, fields),
+        _ => loads::answer_load(rt, fields),
     }
 }

@@ -1,12 +1,22 @@
 -- Rows one after the other: where a loop stands among them, and what a test of all of them says of each.
 -- Assumes nothing.
 use mathlib.Core.Path.{◌≡◌, refl, sym, ap, ◌∙◌, subst}
-use mathlib.Core.Bool.{Bool, true, false}
+use mathlib.Core.Bool.{Bool, true, false, false≢true}
 use mathlib.Core.List.{[], ◌∷◌}
 use Prim.Native.Nat.{ℕ, zero, suc, ◌+◌, ◌-◌, ◌≤◌, ◌<◌}
 use native.Mathlib.Omega.{arith}
 use lib.Dec.{eqb}
+use lib.ListN.{length}
 use borrow.Author.Tests.{eqb-true, eqb-false}
+use denote.Param.Members.{Mut}
+use Rattle.std.specs.Bool.{MatchBool}
+use Rattle.std.specs.Fn.{Called}
+use Rattle.std.specs.Iterator.{ChecksAll}
+use Rattle.std.specs.List.{range_with_len, AllWithin, HoldsAt}
+use Rattle.std.proofs.iter.Yields.{nat_range_steps}
+use Rattle.std.proofs.lemmas.Iterator.{cases_from_all, YieldsList-from_range}
+use Rattle.std.proofs.lemmas.List.FromFn.{length-range_with_len, get_or-range_with_len}
+use Rattle.std.specs.declared.ops.Range.{Range}
 use Rattle.rules.specs.declared.Span.{Span}
 use Rattle.rules.specs.View.{each, along}
 use Rattle.rules.specs.WellFormed.{every}
@@ -53,14 +63,6 @@ module _ {f : ℕ → Bool} {first past : ℕ} where
     pub passing_end : past ≤ i → true ≡ every (each f first (past - first))
     passing_end h = sym (p.rest ∙ every-end f i past h)
 
--- the loop began at row 0
-module _ {f : ℕ → Bool} {i n : ℕ} (p : Passing f 0 i n) where
-  pub passing_all_stop : i < n → f i ≡ false → false ≡ every (each f 0 n)
-  passing_all_stop h e = passing_stop p h e ∙ sym (ap every (each_start f n))
-
-  pub passing_all_end : n ≤ i → true ≡ every (each f 0 n)
-  passing_all_end h = passing_end p h ∙ sym (ap every (each_start f n))
-
 -- what a test of all rows says of each, and what follows where each passes
 each_passes : (f : ℕ → Bool) (first n : ℕ) → every (each f first n) ≡ true → (i : ℕ) → first ≤ i → i < first + n → f i ≡ true
 each_passes f first zero e i h k = absurd (omega arith)
@@ -88,3 +90,40 @@ module _ (f : ℕ → Bool) (n : ℕ) where
 
   pub passes_rows : ((i : ℕ) → i < n → f i ≡ true) → every (each f 0 n) ≡ true
   passes_rows h = passes_each f 0 n (λ i a b. h i (omega arith))
+
+-- one row of a list is passed over: so are not all
+stopped_at : (f : ℕ → Bool) (first n k : ℕ) → k < n → f (first + k) ≡ false → every (each f first n) ≡ false
+stopped_at f first n k h e =
+    by_cases (every (each f first n))
+    (λ t. absurd (false≢true (sym e ∙ each_passes f first n t (first + k) (omega arith) (omega arith))))
+    (λ t. t)
+
+rows_answer :
+    (f : ℕ → Bool) (first n : ℕ) (r : Bool)
+    → MatchBool r (AllWithin (λ x. f x ≡ true) (range_with_len first n) 0 (length (range_with_len first n))) ((k : ℕ) × (k < length (range_with_len first n)) × HoldsAt (λ x. f x ≡ false) (range_with_len first n) k)
+    → r ≡ every (each f first n)
+rows_answer f first n true h =
+    sym (passes_each f first n
+    (λ i a b.
+    let e : first + (i - first) ≡ i = omega arith in
+    let there = get_or-range_with_len first n (i - first) 0 (omega arith) in
+    subst (λ (x : ℕ). f x ≡ true) (there ∙ e) (h (i - first) 0 (omega arith) (omega (arith, length-range_with_len first n)))))
+rows_answer f first n false h =
+    let k = h.0 in
+    let l : k < n = omega (arith, length-range_with_len first n, h.1) in
+    sym (stopped_at f first n k l (subst (λ (x : ℕ). f x ≡ false) (get_or-range_with_len first n k 0 l) (h.2 0)))
+
+-- what `all` answers along a range of rows, where each call answers a test of its row
+pub all_rows :
+    {F : Type 0} {g : Mut F (ℕ × Unit {0}) Bool} {s : Range ℕ} (u : Range ℕ) (q : F) (r : Bool) (f : ℕ → Bool) (first past : ℕ)
+    → ChecksAll nat_range_steps g s q r u
+    → s ≡ record { start = first; end = past }
+    → ((x : ℕ) (b : Bool) (t : F) → Called g q (x, tt) b t → (t ≡ q) × (b ≡ f x))
+    → r ≡ every (each f first (past - first))
+all_rows {F} {g} u q r f first past ran from says =
+    let n = past - first in
+    let found : MatchBool r (AllWithin (λ x. f x ≡ true) (range_with_len first n) 0 (length (range_with_len first n))) ((k : ℕ) × (k < length (range_with_len first n)) × HoldsAt (λ x. f x ≡ false) (range_with_len first n) k) =
+    cases_from_all u q r (λ x. f x ≡ true) (λ x. f x ≡ false) ran (YieldsList-from_range first past n from refl)
+    (λ x t k. (let w = says x true t k in w.0, let w = says x true t k in sym w.1))
+    (λ x t k. let w = says x false t k in sym w.1) in
+    rows_answer f first n r found

@@ -1,14 +1,14 @@
 -- Which codes are instructions.
 -- Assumes nothing.
-use mathlib.Core.Path.{◌≡◌}
+use mathlib.Core.Path.{◌≡◌, refl}
 use mathlib.Core.Bool.{true}
-use Prim.Native.Nat.{ℕ, ◌≤◌}
-use lib.Dec.{leb}
-use borrow.Author.Tests.{leb-true}
+use native.Mathlib.Omega.{arith}
+use Prim.Native.Nat.{ℕ, ◌<◌}
+use borrow.Author.Tests.{le-leb}
 use Rattle.rules.specs.Bytes.{inside}
+use Rattle.rules.specs.Rows.{instruction_code}
 use Rattle.rules.specs.WellFormed.{is_instruction}
-use Rattle.laws.proofs.Tests.{and_left, and_right}
 
-pub instruction-range : (c : ℕ) → is_instruction c ≡ true → (1 ≤ c) × (c ≤ 59)
+pub instruction-said : (c k : ℕ) → k < 59 → c ≡ instruction_code k → is_instruction c ≡ true
 unfolding is_instruction inside
-instruction-range c e = (leb-true 1 c (and_left (leb 1 c) (leb c 59) e), leb-true c 59 (and_right (leb 1 c) (leb c 59) e))
+instruction-said c k h e = rw (le-leb 1 c (omega (arith, e)), le-leb c 59 (omega (arith, h, e))) refl

@@ -10,18 +10,14 @@ use lib.Dec.{leb, ltb}
 use lib.ListN.{length, get_or, drop, drop_of_length-le}
 use borrow.Author.Tests.{leb-true, ltb-true, ltb-false}
 use Rattle.rules.specs.Rows.{item_length, statement_length, operand_length, attribute_length}
-use Rattle.rules.specs.WellFormed.{Counts, only, is_zero, count_fits, rest_unused, table_ok, tables_ok}
+use Rattle.rules.specs.WellFormed.{only, is_zero, count_fits, rest_unused, table_ok, tables_ok}
 use Rattle.laws.proofs.Cases.{by_cases, leb_iff}
 use Rattle.laws.proofs.Tests.{and_left, and_right}
 use Rattle.rules.specs.Stored.{in_words}
-use Rattle.packed.specs.Packed.{table}
-use Rattle.packed.proofs.Words.{words-length, word_there, no_word, only-words}
-use Rattle.wellformed.specs.Parts.{rows_ok, few, rows_in, Whole, counted}
+use Rattle.packed.proofs.Words.{words_length, word_there, no_word}
+use Rattle.wellformed.specs.Parts.{few, rows_in, Whole, counted}
 use Rattle.wellformed.proofs.Places.{Small}
 use Rattle.wellformed.proofs.Counted.{words-fit}
-
-pub words_alone : (text I S O A : List ℕ) (c : Counts) → rows_ok text (table I []) (table S []) (table O []) (table A []) c ≡ rows_ok text I S O A c
-words_alone text I S O A c = rw (only-words I, only-words S, only-words O, only-words A)
 
 -- what four bytes hold has 32 bits
 pub word_fits_lem : (b : List ℕ) → ((k : ℕ) → get_or b k 0 < 256) → (k : ℕ) → get_or (in_words b) k 0 < 2 ^ 32
@@ -40,7 +36,7 @@ both e f = rw (e, f)
 module _ (size : ℕ) (b : List ℕ) (some : 1 ≤ size) (w : Whole size b) where
   -- as many words as the rows have
   pub whole_words : length (in_words b) ≡ rows_in size b * size
-  whole_words = words-length b ∙ ap (λ (n : ℕ). n / 4) (w.rows ∙ sym (mul_assoc (rows_in size b) size 4)) ∙ mul-div_cancel (rows_in size b * size) {n = 4} (omega arith)
+  whole_words = words_length b ∙ ap (λ (n : ℕ). n / 4) (w.rows ∙ sym (mul_assoc (rows_in size b) size 4)) ∙ mul-div_cancel (rows_in size b * size) {n = 4} (omega arith)
 
   pub packed_table : ((k : ℕ) → get_or b k 0 < 256) → table_ok size (in_words b) (rows_in size b) ≡ leb (rows_in size b) 65536
   unfolding table_ok count_fits rest_unused

@@ -4,6 +4,7 @@
 
 mod attribute;
 mod item;
+pub mod lent;
 mod letters;
 mod operand;
 mod owned;
@@ -14,135 +15,61 @@ mod table;
 
 ghost use Rattle.std.specs.Prelude.{◌≡◌};
 ghost use Rattle.rules.specs.Stored.{in_words};
-ghost use Rattle.packed.specs.Packed.{table as table_of};
 ghost use Rattle.rules.specs.Rows.{item_length, statement_length, operand_length, attribute_length};
 ghost use Rattle.wellformed.specs.Parts.{rows_ok, few as few_of, Whole, counted};
 ghost use Rattle.rules.specs.WellFormed.{counts, tables_ok, rows_owned, well_formed};
 
 use item::{items_ok, kinds_ok};
+use lent::Lent;
 use owned::{attributes_owned, operands_owned, statements_owned};
+use packed::Packed;
+use rules::Counts;
 use table::table_ok;
+use tables::rows::Table;
 use tables::{ATTRIBUTE_LENGTH, ITEM_LENGTH, OPERAND_LENGTH, STATEMENT_LENGTH};
 
 // Whether counts are within the tables' capacities, and what stands past the counted rows is 0.
+#[tactic(auto, unfolding(rules::specs::WellFormed::tables_ok))]
 fn tables_ok(
-    items: &[u32],
-    statements: &[u32],
-    operands: &[u32],
-    attributes: &[u32],
+    lent: &Lent<&[u32]>,
     item_count: u64,
     statement_count: u64,
     operand_count: u64,
     attribute_count: u64,
 ) -> bool
-    ensures { result ≡ tables_ok items.now statements.now operands.now attributes.now (counts item_count statement_count operand_count attribute_count) }
+    ensures { result ≡ tables_ok lent.now.items.now lent.now.statements.now lent.now.operands.now lent.now.attributes.now (counts item_count statement_count operand_count attribute_count) }
 {
-    if !table_ok(items, ITEM_LENGTH, item_count) {
-        return false;
-    }
-    if !table_ok(statements, STATEMENT_LENGTH, statement_count) {
-        return false;
-    }
-    if !table_ok(operands, OPERAND_LENGTH, operand_count) {
-        return false;
-    }
-    table_ok(attributes, ATTRIBUTE_LENGTH, attribute_count)
+    table_ok(lent.items, ITEM_LENGTH, item_count)
+        && table_ok(lent.statements, STATEMENT_LENGTH, statement_count)
+        && table_ok(lent.operands, OPERAND_LENGTH, operand_count)
+        && table_ok(lent.attributes, ATTRIBUTE_LENGTH, attribute_count)
 }
 
 // Whether the counted rows stand in reading order, each owned once.
-fn rows_owned(
-    items: &[u32],
-    item_bytes: &[u8],
-    statements: &[u32],
-    statement_bytes: &[u8],
-    item_count: u32,
-    statement_count: u32,
-    operand_count: u32,
-    attribute_count: u32,
-) -> bool
-    ensures { result ≡ rows_owned (table_of items.now item_bytes.now) (table_of statements.now statement_bytes.now) (counts item_count statement_count operand_count attribute_count) }
+#[tactic(auto, unfolding(rules::specs::WellFormed::rows_owned))]
+fn rows_owned<T: Table>(items: T, statements: T, of: Counts) -> bool
+    ensures { result ≡ rows_owned (T.words items) (T.words statements) (counts of.items of.statements of.operands of.attributes) }
 {
-    if !statements_owned(items, item_bytes, item_count, statement_count) {
-        return false;
-    }
-    if !kinds_ok(items, item_bytes, item_count) {
-        return false;
-    }
-    if !operands_owned(
-        items,
-        item_bytes,
-        statements,
-        statement_bytes,
-        item_count,
-        operand_count,
-    ) {
-        return false;
-    }
-    attributes_owned(
-        items,
-        item_bytes,
-        statements,
-        statement_bytes,
-        item_count,
-        attribute_count,
-    )
+    statements_owned(items, of.items, of.statements)
+        && kinds_ok(items, of.items)
+        && operands_owned(items, statements, of.items, of.operands)
+        && attributes_owned(items, statements, of.items, of.attributes)
 }
 
 // Whether counts are up to 65,536.
+#[tactic(auto, unfolding(crate::specs::Parts::few))]
 fn few(items: usize, statements: usize, operands: usize, attributes: usize) -> bool
     ensures { result ≡ few_of items statements operands attributes }
 {
-    if 65536 < items {
-        return false;
-    }
-    if 65536 < statements {
-        return false;
-    }
-    operands <= 65536 && attributes <= 65536
+    items <= 65536 && statements <= 65536 && operands <= 65536 && attributes <= 65536
 }
 
 // Whether the counted rows of a text and four tables are owned, and say what they may.
-fn rows_ok(
-    text: &[u8],
-    items: &[u32],
-    item_bytes: &[u8],
-    statements: &[u32],
-    statement_bytes: &[u8],
-    operands: &[u32],
-    operand_bytes: &[u8],
-    attributes: &[u32],
-    attribute_bytes: &[u8],
-    item_count: u32,
-    statement_count: u32,
-    operand_count: u32,
-    attribute_count: u32,
-) -> bool
-    ensures { result ≡ rows_ok text.now (table_of items.now item_bytes.now) (table_of statements.now statement_bytes.now) (table_of operands.now operand_bytes.now) (table_of attributes.now attribute_bytes.now) (counts item_count statement_count operand_count attribute_count) }
+#[tactic(auto, unfolding(crate::specs::Parts::rows_ok))]
+fn rows_ok<T: Table>(lent: &Lent<T>, of: Counts) -> bool
+    ensures { result ≡ rows_ok lent.now.text.now (T.words lent.now.items) (T.words lent.now.statements) (T.words lent.now.operands) (T.words lent.now.attributes) (counts of.items of.statements of.operands of.attributes) }
 {
-    if !rows_owned(
-        items,
-        item_bytes,
-        statements,
-        statement_bytes,
-        item_count,
-        statement_count,
-        operand_count,
-        attribute_count,
-    ) {
-        return false;
-    }
-    items_ok(
-        text,
-        items,
-        item_bytes,
-        statements,
-        statement_bytes,
-        operands,
-        operand_bytes,
-        attributes,
-        attribute_bytes,
-        item_count,
-    )
+    rows_owned(lent.items, lent.statements, of) && items_ok(lent, of.items)
 }
 
 // Whether a text and four tables with so many counted rows are well formed.
@@ -162,11 +89,15 @@ pub fn well_formed(
     if 65536 < text.len() {
         return false;
     }
-    if !tables_ok(
+    let lent = Lent {
+        text,
         items,
         statements,
         operands,
         attributes,
+    };
+    if !tables_ok(
+        &lent,
         item_count,
         statement_count,
         operand_count,
@@ -174,22 +105,13 @@ pub fn well_formed(
     ) {
         return false;
     }
-    let none = [0u8; 0];
-    rows_ok(
-        text,
-        items,
-        &none,
-        statements,
-        &none,
-        operands,
-        &none,
-        attributes,
-        &none,
-        item_count as u32,
-        statement_count as u32,
-        operand_count as u32,
-        attribute_count as u32,
-    )
+    let of = Counts {
+        items: item_count as u32,
+        statements: statement_count as u32,
+        operands: operand_count as u32,
+        attributes: attribute_count as u32,
+    };
+    rows_ok(&lent, of)
 }
 
 // Whether a text and four tables that are bytes of whole rows, all of them counted, are well formed.
@@ -213,20 +135,18 @@ pub fn packed_well_formed(
     if !few(item_count, statement_count, operand_count, attribute_count) {
         return false;
     }
-    let none = [0u32; 0];
-    rows_ok(
+    let lent = Lent {
         text,
-        &none,
-        items,
-        &none,
-        statements,
-        &none,
-        operands,
-        &none,
-        attributes,
-        item_count as u32,
-        statement_count as u32,
-        operand_count as u32,
-        attribute_count as u32,
-    )
+        items: Packed { bytes: items },
+        statements: Packed { bytes: statements },
+        operands: Packed { bytes: operands },
+        attributes: Packed { bytes: attributes },
+    };
+    let of = Counts {
+        items: item_count as u32,
+        statements: statement_count as u32,
+        operands: operand_count as u32,
+        attributes: attribute_count as u32,
+    };
+    rows_ok(&lent, of)
 }

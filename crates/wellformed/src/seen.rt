@@ -8,10 +8,8 @@ pub fn slot(name: &[u8], n: usize) -> usize
     ensures { (result ≡ slot_of n name.now) × (result < n) }
 {
     let mut h: usize = 0;
-    let mut i = 0;
-    while i < name.len() {
-        h = (h * 37 + name[i] as usize) % 65536;
-        i += 1;
+    for letter in name {
+        h = (h * 37 + *letter as usize) % 65536;
     }
     h % n
 }

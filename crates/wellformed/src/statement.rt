@@ -1,32 +1,33 @@
 // Statement rows, each in an item whose statements begin at `first`.
 ghost use Rattle.std.specs.Prelude.{◌≡◌, true, ◌≤◌, length};
-ghost use Rattle.packed.specs.Packed.{table as table_of};
 ghost use Rattle.rules.specs.WellFormed.{name_ok, width_ok, number_ok, block_ok, arity as arity_in, operands_fit, attributes_fit, new_name, statement_ok, statements_ok};
 
 use crate::attribute::attributes_ok;
+use crate::lent::Lent;
 use crate::letters::{name_in, new_name, no_span};
 use crate::operand::{long, operands_ok, refers_to_block, width_fits};
 use crate::seen::slot;
-use crate::sort::{has_block, inside, is_assignment, is_condition, is_instruction};
-use packed::{number_at, statement_at};
+use crate::sort::{has_block, inside, is_assignment, is_condition};
+use instructions::Instruction;
 use rules::{Span, Statement, code};
 use tables::letters;
+use tables::rows::{Table, number_at, statement_at};
 
 // How many statements are many.
 const MANY: u32 = 64;
 
 // Whether an assignment has a name that is new in its item, a condition none; a `fresh` name is known to be new.
-fn name_ok(
+#[tactic(auto, unfolding(rules::specs::WellFormed::name_ok))]
+fn name_ok<T: Table>(
     text: &[u8],
-    statements: &[u32],
-    statement_bytes: &[u8],
+    statements: T,
     first: u32,
     i: u32,
     fresh: bool,
     r: Statement,
 ) -> bool
-    requires { fresh ≡ true → new_name text.now (table_of statements.now statement_bytes.now) first i ≡ true }
-    ensures { result ≡ name_ok text.now (table_of statements.now statement_bytes.now) first i r }
+    requires { fresh ≡ true → new_name text.now (T.words statements) first i ≡ true }
+    ensures { result ≡ name_ok text.now (T.words statements) first i r }
 {
     let name = r.name;
     if !is_assignment(r.code) {
@@ -38,10 +39,11 @@ fn name_ok(
     if fresh {
         return true;
     }
-    new_name(text, statements, statement_bytes, first, i)
+    new_name(text, statements, first, i)
 }
 
 // Whether an assignment has a type or none, a condition none.
+#[tactic(auto, unfolding(rules::specs::WellFormed::width_ok))]
 fn width_ok(r: Statement) -> bool
     ensures { result ≡ width_ok r }
 {
@@ -52,35 +54,35 @@ fn width_ok(r: Statement) -> bool
 }
 
 // Whether only a block and a blockpc have a number.
+#[tactic(auto, unfolding(rules::specs::WellFormed::number_ok))]
 fn number_ok(r: Statement) -> bool
     ensures { result ≡ number_ok r }
 {
-    if r.code == code::BLOCK {
-        return true;
-    }
-    r.code == code::BLOCKPC || r.number == 0
+    r.code == code::BLOCK || r.code == code::BLOCKPC || r.number == 0
 }
 
 // Whether a phi and a blockpc refer to a block before them, and the others to none.
-fn block_ok(statements: &[u32], statement_bytes: &[u8], first: u32, i: u32, r: Statement) -> bool
-    ensures { result ≡ block_ok (table_of statements.now statement_bytes.now) first i r }
+#[tactic(auto, unfolding(rules::specs::WellFormed::block_ok))]
+fn block_ok<T: Table>(statements: T, first: u32, i: u32, r: Statement) -> bool
+    ensures { result ≡ block_ok (T.words statements) first i r }
 {
     if has_block(r.code) {
-        return refers_to_block(statements, statement_bytes, first, i, r.block);
+        return refers_to_block(statements, first, i, r.block);
     }
     r.block == 0
 }
 
 // How many operands a statement has to have.
-fn arity(statements: &[u32], statement_bytes: &[u8], r: Statement) -> u32
-    ensures { result ≡ arity_in (table_of statements.now statement_bytes.now) r }
+#[tactic(auto, unfolding(rules::specs::WellFormed::arity))]
+fn arity<T: Table>(statements: T, r: Statement) -> u32
+    ensures { result ≡ arity_in (T.words statements) r }
 {
     let c = r.code;
-    if is_instruction(c) {
-        return instructions::arity((c - 1) as usize) as u32;
+    if let Some(instruction) = Instruction::of_code(c) {
+        return instruction.arity() as u32;
     }
     if c == code::PHI {
-        return number_at(statements, statement_bytes, r.block);
+        return number_at(statements, r.block);
     }
     if is_condition(c) {
         return 2;
@@ -89,226 +91,74 @@ fn arity(statements: &[u32], statement_bytes: &[u8], r: Statement) -> u32
 }
 
 // Whether a statement has as many operands as it has to, and they refer to assignments before it.
-fn operands_fit(
-    statements: &[u32],
-    statement_bytes: &[u8],
-    operands: &[u32],
-    operand_bytes: &[u8],
-    first: u32,
-    i: u32,
-    r: Statement,
-) -> bool
-    ensures { result ≡ operands_fit (table_of statements.now statement_bytes.now) (table_of operands.now operand_bytes.now) first i r }
+#[tactic(auto, unfolding(rules::specs::WellFormed::operands_fit))]
+fn operands_fit<T: Table>(statements: T, operands: T, first: u32, i: u32, r: Statement) -> bool
+    ensures { result ≡ operands_fit (T.words statements) (T.words operands) first i r }
 {
-    let s = r.operands;
-    if long(s) != arity(statements, statement_bytes, r) {
-        return false;
-    }
-    operands_ok(
-        statements,
-        statement_bytes,
-        operands,
-        operand_bytes,
-        first,
-        i,
-        s,
-    )
+    long(r.operands) == arity(statements, r)
+        && operands_ok(statements, operands, first, i, r.operands)
 }
 
 // Whether an assignment has attributes of its own sort, a condition none.
-fn attributes_fit(text: &[u8], attributes: &[u32], attribute_bytes: &[u8], r: Statement) -> bool
-    ensures { result ≡ attributes_fit text.now (table_of attributes.now attribute_bytes.now) r }
+#[tactic(auto, unfolding(rules::specs::WellFormed::attributes_fit))]
+fn attributes_fit<T: Table>(text: &[u8], attributes: T, r: Statement) -> bool
+    ensures { result ≡ attributes_fit text.now (T.words attributes) r }
 {
     let s = r.attributes;
     if !is_assignment(r.code) {
         return long(s) == 0;
     }
-    attributes_ok(
-        text,
-        attributes,
-        attribute_bytes,
-        code::KNOWN_BITS,
-        code::RANGE,
-        s,
-    )
+    attributes_ok(text, attributes, code::KNOWN_BITS, code::RANGE, s)
 }
 
 // Whether statement row i is well formed; a `fresh` name is known to be new.
-fn statement_ok(
-    text: &[u8],
-    statements: &[u32],
-    statement_bytes: &[u8],
-    operands: &[u32],
-    operand_bytes: &[u8],
-    attributes: &[u32],
-    attribute_bytes: &[u8],
-    first: u32,
-    i: u32,
-    fresh: bool,
-    r: Statement,
-) -> bool
-    requires { fresh ≡ true → new_name text.now (table_of statements.now statement_bytes.now) first i ≡ true }
-    ensures { result ≡ statement_ok text.now (table_of statements.now statement_bytes.now) (table_of operands.now operand_bytes.now) (table_of attributes.now attribute_bytes.now) first i r }
+#[tactic(auto, unfolding(rules::specs::WellFormed::statement_ok))]
+fn statement_ok<T: Table>(lent: &Lent<T>, first: u32, i: u32, fresh: bool, r: Statement) -> bool
+    requires { fresh ≡ true → new_name lent.now.text.now (T.words lent.now.statements) first i ≡ true }
+    ensures { result ≡ statement_ok lent.now.text.now (T.words lent.now.statements) (T.words lent.now.operands) (T.words lent.now.attributes) first i r }
 {
-    if !inside(1, code::BLOCKPC, r.code) {
-        return false;
-    }
-    if !name_ok(text, statements, statement_bytes, first, i, fresh, r) {
-        return false;
-    }
-    if !width_ok(r) {
-        return false;
-    }
-    if !number_ok(r) {
-        return false;
-    }
-    if !block_ok(statements, statement_bytes, first, i, r) {
-        return false;
-    }
-    if !operands_fit(
-        statements,
-        statement_bytes,
-        operands,
-        operand_bytes,
-        first,
-        i,
-        r,
-    ) {
-        return false;
-    }
-    attributes_fit(text, attributes, attribute_bytes, r)
+    inside(1, code::BLOCKPC, r.code)
+        && name_ok(lent.text, lent.statements, first, i, fresh, r)
+        && width_ok(r)
+        && number_ok(r)
+        && block_ok(lent.statements, first, i, r)
+        && operands_fit(lent.statements, lent.operands, first, i, r)
+        && attributes_fit(lent.text, lent.attributes, r)
 }
 
 // Whether the statement rows of an item are well formed; once a row is tested, its name's slot has a mark.
-fn statements_in(
-    text: &[u8],
-    statements: &[u32],
-    statement_bytes: &[u8],
-    operands: &[u32],
-    operand_bytes: &[u8],
-    attributes: &[u32],
-    attribute_bytes: &[u8],
-    s: Span,
-    seen: &mut [u8],
-) -> bool
+fn statements_in<T: Table>(lent: &Lent<T>, s: Span, seen: &mut [u8]) -> bool
     requires { 1 ≤ length seen.old }
-    ensures { result ≡ statements_ok text.now (table_of statements.now statement_bytes.now) (table_of operands.now operand_bytes.now) (table_of attributes.now attribute_bytes.now) s }
+    ensures { result ≡ statements_ok lent.now.text.now (T.words lent.now.statements) (T.words lent.now.operands) (T.words lent.now.attributes) s }
 {
     let first = s.first;
-    let end = s.past;
-    let mut i = first;
-    while i < end {
-        let r = statement_at(statements, statement_bytes, i);
-        let k = slot(letters(text, r.name.first, r.name.past), seen.len());
+    for i in first..s.past {
+        let r = statement_at(lent.statements, i);
+        let k = slot(letters(lent.text, r.name.first, r.name.past), seen.len());
         let fresh = seen[k] == 0;
-        if !statement_ok(
-            text,
-            statements,
-            statement_bytes,
-            operands,
-            operand_bytes,
-            attributes,
-            attribute_bytes,
-            first,
-            i,
-            fresh,
-            r,
-        ) {
+        if !statement_ok(lent, first, i, fresh, r) {
             return false;
         }
         seen[k] = 1;
-        i += 1;
     }
     true
 }
 
-// The same with 256 marks, for an item of few statements.
-fn few_ok(
-    text: &[u8],
-    statements: &[u32],
-    statement_bytes: &[u8],
-    operands: &[u32],
-    operand_bytes: &[u8],
-    attributes: &[u32],
-    attribute_bytes: &[u8],
-    s: Span,
-) -> bool
-    ensures { result ≡ statements_ok text.now (table_of statements.now statement_bytes.now) (table_of operands.now operand_bytes.now) (table_of attributes.now attribute_bytes.now) s }
+// The same with N marks.
+fn with_marks<T: Table, const N: usize>(lent: &Lent<T>, s: Span) -> bool
+    requires { (1 ≤ N) × (N ≤ 65536) }
+    ensures { result ≡ statements_ok lent.now.text.now (T.words lent.now.statements) (T.words lent.now.operands) (T.words lent.now.attributes) s }
 {
-    let mut seen = [0u8; 256];
-    statements_in(
-        text,
-        statements,
-        statement_bytes,
-        operands,
-        operand_bytes,
-        attributes,
-        attribute_bytes,
-        s,
-        &mut seen,
-    )
-}
-
-// The same with 65,536 marks, for an item of many.
-fn many_ok(
-    text: &[u8],
-    statements: &[u32],
-    statement_bytes: &[u8],
-    operands: &[u32],
-    operand_bytes: &[u8],
-    attributes: &[u32],
-    attribute_bytes: &[u8],
-    s: Span,
-) -> bool
-    ensures { result ≡ statements_ok text.now (table_of statements.now statement_bytes.now) (table_of operands.now operand_bytes.now) (table_of attributes.now attribute_bytes.now) s }
-{
-    let mut seen = [0u8; 65536];
-    statements_in(
-        text,
-        statements,
-        statement_bytes,
-        operands,
-        operand_bytes,
-        attributes,
-        attribute_bytes,
-        s,
-        &mut seen,
-    )
+    let mut seen = [0u8; N];
+    statements_in(lent, s, &mut seen)
 }
 
 // Whether the statement rows of an item are well formed.
-pub fn statements_ok(
-    text: &[u8],
-    statements: &[u32],
-    statement_bytes: &[u8],
-    operands: &[u32],
-    operand_bytes: &[u8],
-    attributes: &[u32],
-    attribute_bytes: &[u8],
-    s: Span,
-) -> bool
-    ensures { result ≡ statements_ok text.now (table_of statements.now statement_bytes.now) (table_of operands.now operand_bytes.now) (table_of attributes.now attribute_bytes.now) s }
+pub fn statements_ok<T: Table>(lent: &Lent<T>, s: Span) -> bool
+    ensures { result ≡ statements_ok lent.now.text.now (T.words lent.now.statements) (T.words lent.now.operands) (T.words lent.now.attributes) s }
 {
     if long(s) < MANY {
-        return few_ok(
-            text,
-            statements,
-            statement_bytes,
-            operands,
-            operand_bytes,
-            attributes,
-            attribute_bytes,
-            s,
-        );
+        return with_marks::<T, 256>(lent, s);
     }
-    many_ok(
-        text,
-        statements,
-        statement_bytes,
-        operands,
-        operand_bytes,
-        attributes,
-        attribute_bytes,
-        s,
-    )
+    with_marks::<T, 65536>(lent, s)
 }

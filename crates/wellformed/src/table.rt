@@ -1,20 +1,16 @@
 // A table's count, and the words past the counted rows.
 ghost use Rattle.std.specs.Prelude.{◌≡◌, ◌≤◌};
-ghost use Rattle.rules.specs.Bytes.{count};
-ghost use Rattle.rules.specs.WellFormed.{is_zero, table_ok};
+ghost use Rattle.rules.specs.WellFormed.{only, is_zero, table_ok};
 
-// How many zeros a part of a table begins with.
-fn zero_len(words: &[u32]) -> usize
-    ensures { result ≡ count is_zero words.now }
+// Whether words are all unused.
+fn unused(words: &[u32]) -> bool
+    ensures { result ≡ only is_zero words.now }
 {
-    let mut i = 0;
-    while i < words.len() && words[i] == 0 {
-        i += 1;
-    }
-    i
+    words.iter().all(|w| *w == 0)
 }
 
 // Whether a table of rows of a length has room for so many rows, and is 0 behind them.
+#[tactic(auto, unfolding(rules::specs::WellFormed::table_ok, rules::specs::WellFormed::count_fits, rules::specs::WellFormed::rest_unused))]
 pub fn table_ok(table: &[u32], length: usize, rows: u64) -> bool
     requires { 1 ≤ length }
     ensures { result ≡ table_ok length table.now rows }
@@ -27,5 +23,5 @@ pub fn table_ok(table: &[u32], length: usize, rows: u64) -> bool
         return false;
     }
     let at = n * length;
-    zero_len(&table[at..]) == table.len() - at
+    unused(&table[at..])
 }

@@ -5,8 +5,8 @@
 mod reading;
 mod writing;
 
-ghost use Rattle.std.specs.Prelude.{◌≡◌, ◌+◌, ◌-◌, ◌^◌, eqb, ltb};
-ghost use Rattle.rules.specs.Integers.{number, below, fits as fits_width, positive as is_positive, opposite, negative, order};
+ghost use Rattle.std.specs.Prelude.{◌≡◌, ◌+◌, ◌-◌, ◌^◌, ltb};
+ghost use Rattle.rules.specs.Integers.{number, below, opposite, negative, order};
 ghost use Rattle.rules.specs.Rows.{words_of, bits_of};
 ghost use Rattle.wide.specs.Wide.{bits, as_field};
 
@@ -14,24 +14,10 @@ pub use reading::type_width;
 use rules::Words;
 
 // An integer from -2^127 to 2^127 - 1.
-#[derive(Clone, Copy)]
+#[derive(Clone, Copy, Debug, PartialEq, Eq)]
 pub struct Wide {
     pub hi: u64,
     pub lo: u64,
-}
-
-// What digits read as.
-#[derive(Clone, Copy)]
-pub enum Parsed {
-    Value(Wide),
-    Malformed,
-}
-
-// What an integer is in a field of at most 32 bits, unsigned.
-#[derive(Clone, Copy)]
-pub enum Fitted {
-    Fits(u32),
-    Outside,
 }
 
 // The largest half, the number past a word, and the number of the sign's bit in the high half.
@@ -64,42 +50,6 @@ impl Wide {
         Wide::MAX
     }
 
-    // The integer n.
-    pub fn small(n: u64) -> Wide
-        ensures { bits result ≡ n }
-    {
-        Wide { hi: 0, lo: n }
-    }
-
-    // The integer whose bits are those of four words.
-    pub fn of_words(w: Words) -> Wide
-        ensures { bits result ≡ bits_of w }
-    {
-        Wide {
-            hi: w.a as u64 * WORD + w.b as u64,
-            lo: w.c as u64 * WORD + w.d as u64,
-        }
-    }
-
-    // Four words with the same bits.
-    pub fn words(self) -> Words
-        ensures { result ≡ words_of (bits self) }
-    {
-        Words {
-            a: (self.hi / WORD) as u32,
-            b: (self.hi % WORD) as u32,
-            c: (self.lo / WORD) as u32,
-            d: (self.lo % WORD) as u32,
-        }
-    }
-
-    // Whether the two are one integer.
-    pub fn same(self, w: Wide) -> bool
-        ensures { result ≡ eqb (bits self) (bits w) }
-    {
-        self.hi == w.hi && self.lo == w.lo
-    }
-
     // Whether the integer is below 0.
     pub fn is_negative(self) -> bool
         ensures { result ≡ negative (bits self) }
@@ -114,31 +64,14 @@ impl Wide {
         self.flipped().under(w.flipped())
     }
 
-    // The integer in a field of 8 bits, unsigned.
-    pub fn fits_8(self) -> Fitted
-        ensures { as_field result ≡ fits_width 8 (number (bits self)) }
-    {
-        self.fits(0xff)
-    }
-
-    // The integer in a field of 32 bits, unsigned.
-    pub fn fits_32(self) -> Fitted
-        ensures { as_field result ≡ fits_width 32 (number (bits self)) }
-    {
-        self.fits(0xffff_ffff)
-    }
-
-    // The integer in a field whose largest number is most.
-    fn fits(self, most: u32) -> Fitted
+    // The integer in an unsigned field whose largest number is most.
+    pub fn fits(self, most: u32) -> Option<u32>
         ensures { as_field result ≡ below (most + 1) (number (bits self)) }
     {
-        if self.hi != 0 {
-            return Fitted::Outside;
+        if self.hi != 0 || self.lo > most as u64 {
+            return None;
         }
-        if self.lo > most as u64 {
-            return Fitted::Outside;
-        }
-        Fitted::Fits(self.lo as u32)
+        Some(self.lo as u32)
     }
 
     // Whether the bits, as a number without a sign, are below those of w.
@@ -190,17 +123,37 @@ impl Wide {
     }
 }
 
-impl Fitted {
-    // The same field where 0 is outside.
-    fn positive(self) -> Fitted
-        ensures { as_field result ≡ is_positive (as_field self) }
-    {
-        let Fitted::Fits(n) = self else {
-            return Fitted::Outside;
-        };
-        if n == 0 {
-            return Fitted::Outside;
+// The integer n.
+impl From<u64> for Wide {
+    ghost from_gives = { λ n w. bits w ≡ n };
+
+    fn from(n: u64) -> Wide {
+        Wide { hi: 0, lo: n }
+    }
+}
+
+// The integer whose bits are those of four words.
+impl From<Words> for Wide {
+    ghost from_gives = { λ words w. bits w ≡ bits_of words };
+
+    fn from(words: Words) -> Wide {
+        Wide {
+            hi: words.a as u64 * WORD + words.b as u64,
+            lo: words.c as u64 * WORD + words.d as u64,
         }
-        Fitted::Fits(n)
+    }
+}
+
+// Four words with the same bits.
+impl From<Wide> for Words {
+    ghost from_gives = { λ w words. words ≡ words_of (bits w) };
+
+    fn from(w: Wide) -> Words {
+        Words {
+            a: (w.hi / WORD) as u32,
+            b: (w.hi % WORD) as u32,
+            c: (w.lo / WORD) as u32,
+            d: (w.lo % WORD) as u32,
+        }
     }
 }

@@ -1,22 +1,21 @@
 -- `print_with` reads and prints: laws of both calls together.
 -- Assumes nothing.
-use Rattle.front.proofs.Laws.{tells_print, tells-refusal, tells-nothing}
+use Rattle.std.proofs.Common.{rules, ◌≡◌, ℕ, Result, Err, ap}
+use Rattle.rules.specs.declared.refusal.Refusal.{Refusal}
+use Rattle.rules.specs.Results.{read_answer}
+use Rattle.front.proofs.Laws.{tells_print, tells-refusal}
 use Rattle.front.proofs.print_with.Goals as goal
 
-pub returns-in-Read : goal.returns-in-Read
-returns-in-Read c =
+pub returns-in_err-rows : goal.returns-in_err-rows
+returns-in_err-rows c =
+    let same : ◌≡◌ {A = Result ℕ Refusal} c.from_residual.result (Err c.in_err-rows.field-0.0) = search rules in
+    rw same
+    (tells-refusal c.args.entry c.args.text.now c.args.items.now c.args.statements.now c.args.operands.now c.args.attributes.now c.args.work.now c.args.output.now
+    (record { items = c.told-items; statements = c.told-statements; operands = c.told-operands; attributes = c.told-attributes; words = c.told-work })
+    _ _ _ _ _ c.read.ensures _ _ (ap read_answer c.in_err-rows.was))
+
+pub returns : goal.returns
+returns c =
     tells_print c.args.entry c.args.text.now c.args.items.now c.args.statements.now c.args.operands.now c.args.attributes.now c.args.work.now c.args.output.now
-    (record { items = c.requires.items_len; statements = c.requires.statements_len; operands = c.requires.operands_len; attributes = c.requires.attributes_len; words = c.requires.work_len })
-    _ _ _ _ _ c.read-answer.ensures _ _ _ _ c.in-Read.is _ _ _ c.print.ensures
-
-pub returns-in-Printed : goal.returns-in-Printed
-returns-in-Printed c =
-    tells-nothing c.args.entry c.args.text.now c.args.items.now c.args.statements.now c.args.operands.now c.args.attributes.now c.args.work.now c.args.output.now
-    (record { items = c.requires.items_len; statements = c.requires.statements_len; operands = c.requires.operands_len; attributes = c.requires.attributes_len; words = c.requires.work_len })
-    _ _ _ _ _ c.read-answer.ensures _ c.in-Printed.is
-
-pub returns-in-Refused : goal.returns-in-Refused
-returns-in-Refused c =
-    tells-refusal c.args.entry c.args.text.now c.args.items.now c.args.statements.now c.args.operands.now c.args.attributes.now c.args.work.now c.args.output.now
-    (record { items = c.requires.items_len; statements = c.requires.statements_len; operands = c.requires.operands_len; attributes = c.requires.attributes_len; words = c.requires.work_len })
-    _ _ _ _ _ c.read-answer.ensures _ _ c.in-Refused.is
+    (record { items = c.told-items; statements = c.told-statements; operands = c.told-operands; attributes = c.told-attributes; words = c.told-work })
+    _ _ _ _ _ c.read.ensures _ _ _ _ (ap read_answer c.in_ok-rows.was) _ _ _ c.print.ensures

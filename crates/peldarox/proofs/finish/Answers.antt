@@ -1,13 +1,11 @@
-use mathlib.Core.Path.{refl, ap, ◌∙◌}
-use Rattle.peldarox.proofs.Endings as endings
-use Prim.Native.Nat.{ℕ}
-use Rattle.rules.specs.Answers.{refusal}
+use mathlib.Core.Path.{refl}
+use Rattle.parser.specs.Stands.{world}
+use Rattle.peldarox.proofs.Endings.{counted, faulty}
 use Rattle.peldarox.proofs.finish.Goals as goal
 
-pub returns-then-refuses : goal.returns-then-refuses
-returns-then-refuses c text =
-    let s = c.args.s in
-    endings.same_ends _ _ _ _ _ _ _ _ _ _ _ _ (ap (λ (n : ℕ). refusal n s.last.first) c.number_of.ensures ∙ endings.faulty text s c.args.items.now c.args.statements.now c.args.operands.now c.args.attributes.now c.if-refuses.true) refl refl refl refl c.refused.ensures
+pub returns-in-Ok-clause-ends : goal.returns-in-Ok-clause-ends
+unfolding world
+returns-in-Ok-clause-ends c = rw c.in-Ok.is (counted (world c.args.p.now) _ _ refl c.clear.ensures.counts c.clear.ensures.clears)
 
-pub returns : goal.returns
-returns c text = endings.counted _ _ _ _ _ _ _ _ _ c.clear_tables.ensures text c.if-refuses.false
+pub returns-in-Err-clause-ends : goal.returns-in-Err-clause-ends
+returns-in-Err-clause-ends c = rw c.in-Err.is (faulty _ _ _ c.reason_of.ensures c.clear-in-Err.ensures.clears)

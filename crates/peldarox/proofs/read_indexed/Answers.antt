@@ -1,18 +1,15 @@
--- `read_indexed` meets its contract.
--- Assumes nothing.
-use mathlib.Core.List.{[]}
-use Rattle.index.proofs.Reader.{ready-begins}
-use Rattle.peldarox.proofs.Endings as endings
+use mathlib.Core.Path.{refl, ap, ◌∙◌}
+use borrow.Author.Rules.{rules}
+use Rattle.rules.specs.Answers.{outcome, start}
+use Rattle.parser.specs.Stands.{world}
+use Rattle.peldarox.proofs.Endings.{holds_none, same_ends}
 use Rattle.peldarox.proofs.read_indexed.Goals as goal
 
-pub items_of-s-requires : goal.items_of-s-requires
-items_of-s-requires c =
-    record { text_len_bound = c.requires.text_len_bound; ready = ready-begins _ _ _ _ (c.start.ensures.begins _ [] _ [] []) c.requires.blank }
+pub items_of-ended-requires : goal.items_of-ended-requires
+items_of-ended-requires c = record { holds = holds_none c.requires }
 
 pub returns : goal.returns
+unfolding world start
 returns c =
-    let kept = c.items_of-s.auto in
-    endings.same_ends _ _ _ _ _ _ _ _ _ _ _ _
-    (endings.from_start _ _ _ _ _ _ _ _ _ _ _ _ c.start.ensures.no_fault (c.start.ensures.begins _ _ _ _ _) c.items_of-s.ensures.reads)
-    kept.items kept.statements kept.operands kept.attributes
-    (c.finish.ensures _)
+    let k = c.items_of-ended.ensures.keeps in
+    same_ends (ap outcome c.items_of-ended.ensures.tells) c.finish.ensures.ends k.items.long k.statements.long k.operands.long k.attributes.long (search rules) (search rules) (search rules) (search rules)

@@ -1,5 +1,5 @@
-use Rattle.peldarox.proofs.Endings as endings
+use Rattle.peldarox.proofs.Endings.{zeros}
 use Rattle.peldarox.proofs.refused.Goals as goal
 
 pub returns : goal.returns
-returns c = endings.zeros _ _ _ _ _ _ _ _ _ c.clear_tables.ensures _ _ c.start.ensures.begins
+returns c = zeros _ _ (c.fill.ensures.after (λ y e. e)) (c.fill-2.ensures.after (λ y e. e)) (c.fill-3.ensures.after (λ y e. e)) (c.fill-4.ensures.after (λ y e. e))

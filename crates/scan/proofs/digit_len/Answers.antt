@@ -1,17 +1,14 @@
-use native.Mathlib.Omega.{arith}
+use mathlib.Core.Path.{◌∙◌}
+use Rattle.std.proofs.Common.{rules, tests}
+use Rattle.std.proofs.lemmas.Iterator.{YieldsList-from_slice}
+use Rattle.std.proofs.lemmas.Iterator.Consumers.{count_from_yields_List}
+use Rattle.std.proofs.lemmas.Iterator.Search.{YieldsList-from_take_while}
+use Rattle.laws.proofs.Library.{count-prefix}
 use Rattle.rules.specs.Bytes.{digit}
-use Rattle.laws.proofs.Runs.{count_more, count-stop, count-end}
-use Rattle.laws.proofs.Tests.{tests}
-use borrow.Author.Rules.{rules}
 use Rattle.scan.proofs.digit_len.Goals as goal
 
-pub loop-i-preserved : goal.loop-i-preserved
-loop-i-preserved c =
-    omega (arith, count_more digit c.args.s.now c.loop-i.i (search rules) (search tests))
-
-pub returns-else-is_digit : goal.returns-else-is_digit
-returns-else-is_digit c =
-    omega (arith, count-stop digit c.args.s.now c.loop-i.i (search rules) (search tests))
-
-pub returns-after-loop-i : goal.returns-after-loop-i
-returns-after-loop-i c = omega (arith, count-end digit c.args.s.now c.loop-i.i (search rules))
+pub returns : goal.returns
+returns c =
+    let s = c.args.s.now in
+    count_from_yields_List c.take_while.result _ c.count.ensures.ran (YieldsList-from_take_while _ digit (YieldsList-from_slice s cc) c.take_while.ensures.closure c.take_while.ensures.done (λ x b q k. search (rules, tests)))
+    ∙ count-prefix digit s

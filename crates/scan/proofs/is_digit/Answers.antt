@@ -1,7 +1,6 @@
-use Rattle.rules.specs.Bytes.{digit}
-use borrow.Author.Rules.{rules}
+use Rattle.rules.specs.Bytes.{inside, digit}
 use Rattle.scan.proofs.is_digit.Goals as goal
 
 pub returns : goal.returns
-unfolding digit
-returns c = search rules
+unfolding inside digit
+returns c = c.is_ascii_digit.ensures.value

@@ -1,11 +1,6 @@
-use Rattle.rules.specs.Bytes.{letter}
-use Rattle.laws.proofs.Tests.{tests}
+use Rattle.rules.specs.Bytes.{inside, letter}
 use Rattle.scan.proofs.is_letter.Goals as goal
 
-pub returns-then-inside : goal.returns-then-inside
-unfolding letter
-returns-then-inside c = search tests
-
-pub returns-else-inside : goal.returns-else-inside
-unfolding letter
-returns-else-inside c = search tests
+pub returns : goal.returns
+unfolding inside letter
+returns c = c.is_ascii_alphabetic.ensures.value

@@ -1,19 +1,15 @@
-use native.Mathlib.Omega.{arith}
+use mathlib.Core.Path.{◌∙◌}
+use Rattle.std.proofs.Common.{rules, tests}
+use Rattle.std.proofs.lemmas.Iterator.{YieldsList-from_slice}
+use Rattle.std.proofs.lemmas.Iterator.Consumers.{count_from_yields_List}
+use Rattle.std.proofs.lemmas.Iterator.Search.{YieldsList-from_take_while}
+use Rattle.laws.proofs.Library.{count-prefix}
 use Rattle.rules.specs.Bytes.{line_byte}
-use Rattle.laws.proofs.Runs.{count_more, count-stop, count-end}
-use Rattle.laws.proofs.Tests.{tests}
-use borrow.Author.Rules.{rules}
 use Rattle.scan.proofs.line_len.Goals as goal
 
-pub loop-i-preserved : goal.loop-i-preserved
+pub returns : goal.returns
 unfolding line_byte
-loop-i-preserved c =
-    omega (arith, count_more line_byte c.args.s.now c.loop-i.i (search rules) (search tests))
-
-pub returns-else-s-i-ne10 : goal.returns-else-s-i-ne10
-unfolding line_byte
-returns-else-s-i-ne10 c =
-    omega (arith, count-stop line_byte c.args.s.now c.loop-i.i (search rules) (search tests))
-
-pub returns-after-loop-i : goal.returns-after-loop-i
-returns-after-loop-i c = omega (arith, count-end line_byte c.args.s.now c.loop-i.i (search rules))
+returns c =
+    let s = c.args.s.now in
+    count_from_yields_List c.take_while.result _ c.count.ensures.ran (YieldsList-from_take_while _ line_byte (YieldsList-from_slice s cc) c.take_while.ensures.closure c.take_while.ensures.done (λ x b q k. search (rules, tests)))
+    ∙ count-prefix line_byte s

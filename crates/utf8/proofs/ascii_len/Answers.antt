@@ -1,15 +1,21 @@
-use borrow.Author.Rules.{rules}
+use Prim.Native.Nat.{◌-◌}
+use mathlib.Core.Path.{◌∙◌}
+use native.Mathlib.Omega.{arith}
+use Rattle.std.proofs.Common.{rules, tests}
+use Rattle.std.proofs.lemmas.Iterator.{YieldsList-from_slice}
+use Rattle.std.proofs.lemmas.Iterator.Consumers.{count_from_yields_List}
+use Rattle.std.proofs.lemmas.Iterator.Search.{YieldsList-from_take_while}
+use lib.ListN.{length, drop, take}
+use Rattle.laws.proofs.Library.{count-prefix}
+use Rattle.laws.proofs.Runs.{rest-count}
 use Rattle.utf8.specs.Ascii.{ascii}
-use Rattle.utf8.proofs.Ascii.{begins-byte, begins-stop, begins-end}
 use Rattle.utf8.proofs.ascii_len.Goals as goal
 
-pub loop-i-preserved : goal.loop-i-preserved
+pub returns : goal.returns
 unfolding ascii
-loop-i-preserved c = begins-byte c.loop-i.invariant (search rules) c.if-s-i-le127.true-raw
-
-pub returns-else-s-i-le127 : goal.returns-else-s-i-le127
-unfolding ascii
-returns-else-s-i-le127 c = begins-stop c.loop-i.invariant (search rules) c.if-s-i-le127.false-raw
-
-pub returns-after-loop-i : goal.returns-after-loop-i
-returns-after-loop-i c = begins-end c.loop-i.invariant c.loop-i-test.false
+returns c =
+    let s = c.args.s.now in
+    let n = c.ascii_blocks-n.result in
+    let rest = take (length s - n) (drop n s) in
+    let counted = count_from_yields_List c.take_while.result _ c.count.ensures.ran (YieldsList-from_take_while _ ascii (YieldsList-from_slice rest cc) c.take_while.ensures.closure c.take_while.ensures.done (λ x b q k. search (rules, tests))) in
+    omega (arith, c.ascii_blocks-n.ensures.onward, rest-count ascii s n (counted ∙ count-prefix ascii rest))

@@ -12,5 +12,5 @@ slice_bounds-read_full-end c = as_many 524288
 pub slice_bounds-input-end : goal.slice_bounds-input-end
 slice_bounds-input-end c = c.read_full-n.ensures.0
 
-pub slice_bounds-answer_all-end : goal.slice_bounds-answer_all-end
-slice_bounds-answer_all-end c = c.read_full-n.ensures.1
+pub slice_bounds-of-end : goal.slice_bounds-of-end
+slice_bounds-of-end c = c.read_full-n.ensures.1

@@ -7,7 +7,6 @@ use Rattle.rules.specs.WellFormed.{well_formed, short_text, tables_ok}
 use Rattle.rules.specs.Rows.{item_length, statement_length, operand_length, attribute_length}
 use Rattle.laws.proofs.Tests.{said_not_not}
 use Rattle.rules.specs.Stored.{in_words}
-use Rattle.packed.specs.Packed.{table}
 use Rattle.wellformed.specs.Parts.{rows_ok, few, rows_in, counted}
 use Rattle.wellformed.proofs.Packed.{packed_tables, few_small}
 use Rattle.wellformed.proofs.Clauses.{stops, goes, passed, failed}
@@ -32,20 +31,20 @@ returns-then-not-few c =
     goes _ _ (le-leb _ _ c.if-text-gt65536.false)
     (failed _ (c.few.ensures ∙ sym told) c.if-not-few.true-raw)
 
-pub overflow_cast-item_count : goal.overflow_cast-item_count
-overflow_cast-item_count c = omega (arith, (few_small _ _ _ _ (said_not_not c.few.ensures c.if-not-few.false-raw)).items)
+pub overflow_cast-of : goal.overflow_cast-of
+overflow_cast-of c = omega (arith, (few_small _ _ _ _ (said_not_not c.few.ensures c.if-not-few.false-raw)).items)
 
-pub overflow_cast-statement_count : goal.overflow_cast-statement_count
-overflow_cast-statement_count c = omega (arith, (few_small _ _ _ _ (said_not_not c.few.ensures c.if-not-few.false-raw)).statements)
+pub overflow_cast-of-2 : goal.overflow_cast-of-2
+overflow_cast-of-2 c = omega (arith, (few_small _ _ _ _ (said_not_not c.few.ensures c.if-not-few.false-raw)).statements)
 
-pub overflow_cast-operand_count : goal.overflow_cast-operand_count
-overflow_cast-operand_count c = omega (arith, (few_small _ _ _ _ (said_not_not c.few.ensures c.if-not-few.false-raw)).operands)
+pub overflow_cast-of-3 : goal.overflow_cast-of-3
+overflow_cast-of-3 c = omega (arith, (few_small _ _ _ _ (said_not_not c.few.ensures c.if-not-few.false-raw)).operands)
 
-pub overflow_cast-attribute_count : goal.overflow_cast-attribute_count
-overflow_cast-attribute_count c = omega (arith, (few_small _ _ _ _ (said_not_not c.few.ensures c.if-not-few.false-raw)).attributes)
+pub overflow_cast-of-4 : goal.overflow_cast-of-4
+overflow_cast-of-4 c = omega (arith, (few_small _ _ _ _ (said_not_not c.few.ensures c.if-not-few.false-raw)).attributes)
 
 pub returns : goal.returns
-unfolding well_formed short_text rows_ok table
+unfolding well_formed short_text rows_ok
 returns c =
     let told : let a = c.args in
     tables_ok (in_words a.items.now) (in_words a.statements.now) (in_words a.operands.now) (in_words a.attributes.now) (counted a.items.now a.statements.now a.operands.now a.attributes.now)

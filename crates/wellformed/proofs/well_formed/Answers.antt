@@ -1,13 +1,11 @@
 -- `well_formed` meets its contract.
 -- Assumes nothing.
-use mathlib.Core.Path.{◌∙◌}
 use native.Mathlib.Omega.{arith}
 use borrow.Author.Tests.{le-leb, lt-leb}
 use Rattle.rules.specs.WellFormed.{well_formed, short_text}
 use Rattle.laws.proofs.Tests.{said_not_not}
 use Rattle.wellformed.specs.Parts.{rows_ok}
 use Rattle.wellformed.proofs.Places.{counts_small}
-use Rattle.wellformed.proofs.Packed.{words_alone}
 use Rattle.wellformed.proofs.Clauses.{stops, goes, passed, failed}
 use Rattle.wellformed.proofs.well_formed.Goals as goal
 
@@ -21,21 +19,21 @@ returns-then-not-tables_ok c =
     goes _ _ (le-leb _ _ c.if-text-gt65536.false)
     (failed _ c.tables_ok.ensures c.if-not-tables_ok.true-raw)
 
-pub overflow_cast-item_count : goal.overflow_cast-item_count
-overflow_cast-item_count c = omega (arith, (counts_small _ _ _ _ _ (said_not_not c.tables_ok.ensures c.if-not-tables_ok.false-raw)).items)
+pub overflow_cast-of : goal.overflow_cast-of
+overflow_cast-of c = omega (arith, (counts_small _ _ _ _ _ (said_not_not c.tables_ok.ensures c.if-not-tables_ok.false-raw)).items)
 
-pub overflow_cast-statement_count : goal.overflow_cast-statement_count
-overflow_cast-statement_count c = omega (arith, (counts_small _ _ _ _ _ (said_not_not c.tables_ok.ensures c.if-not-tables_ok.false-raw)).statements)
+pub overflow_cast-of-2 : goal.overflow_cast-of-2
+overflow_cast-of-2 c = omega (arith, (counts_small _ _ _ _ _ (said_not_not c.tables_ok.ensures c.if-not-tables_ok.false-raw)).statements)
 
-pub overflow_cast-operand_count : goal.overflow_cast-operand_count
-overflow_cast-operand_count c = omega (arith, (counts_small _ _ _ _ _ (said_not_not c.tables_ok.ensures c.if-not-tables_ok.false-raw)).operands)
+pub overflow_cast-of-3 : goal.overflow_cast-of-3
+overflow_cast-of-3 c = omega (arith, (counts_small _ _ _ _ _ (said_not_not c.tables_ok.ensures c.if-not-tables_ok.false-raw)).operands)
 
-pub overflow_cast-attribute_count : goal.overflow_cast-attribute_count
-overflow_cast-attribute_count c = omega (arith, (counts_small _ _ _ _ _ (said_not_not c.tables_ok.ensures c.if-not-tables_ok.false-raw)).attributes)
+pub overflow_cast-of-4 : goal.overflow_cast-of-4
+overflow_cast-of-4 c = omega (arith, (counts_small _ _ _ _ _ (said_not_not c.tables_ok.ensures c.if-not-tables_ok.false-raw)).attributes)
 
 pub returns : goal.returns
 unfolding well_formed short_text rows_ok
 returns c =
     goes _ _ (le-leb _ _ c.if-text-gt65536.false)
     (passed c.tables_ok.ensures c.if-not-tables_ok.false-raw
-    (c.rows_ok.ensures ∙ words_alone _ _ _ _ _ _))
+    c.rows_ok.ensures)

@@ -7,17 +7,11 @@ use Rattle.instructions.specs.Candidates.{letter, keywords_of}
 use Rattle.instructions.proofs.Candidates.{by_letter, no_candidate}
 use Rattle.instructions.proofs.keywords.of_seven.Goals as goal
 
-pub only-requires : goal.only-requires
-only-requires c = tt
-
-pub only-requires-in-110 : goal.only-requires-in-110
-only-requires-in-110 c = tt
-
 pub returns-in-98 : goal.returns-in-98
-returns-in-98 c = c.only.ensures ∙ by_letter 0 c.args.w.now 19 (keywords_of 7) (byte "b") c.in-98.is
+returns-in-98 c = c.only.ensures ∙ by_letter 0 c.args.w.now (keywords_of 7) (byte "b") c.in-98.is
 
 pub returns-in-110 : goal.returns-in-110
-returns-in-110 c = c.only-in-110.ensures ∙ by_letter 0 c.args.w.now 19 (keywords_of 7) (byte "n") c.in-110.is
+returns-in-110 c = c.only-in-110.ensures ∙ by_letter 0 c.args.w.now (keywords_of 7) (byte "n") c.in-110.is
 
 pub returns-in_default : goal.returns-in_default
-returns-in_default c = sym (no_candidate (letter 0) (bytes "bn") c.args.w.now 19 (keywords_of 7) refl (search nums))
+returns-in_default c = sym (no_candidate (letter 0) (bytes "bn") c.args.w.now (keywords_of 7) refl (search nums))

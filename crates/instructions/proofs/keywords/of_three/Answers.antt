@@ -7,17 +7,11 @@ use Rattle.instructions.specs.Candidates.{letter, keywords_of}
 use Rattle.instructions.proofs.Candidates.{by_letter, no_candidate}
 use Rattle.instructions.proofs.keywords.of_three.Goals as goal
 
-pub only-requires : goal.only-requires
-only-requires c = tt
-
-pub only-requires-in-112 : goal.only-requires-in-112
-only-requires-in-112 c = tt
-
 pub returns-in-118 : goal.returns-in-118
-returns-in-118 c = c.only.ensures ∙ by_letter 0 c.args.w.now 19 (keywords_of 3) (byte "v") c.in-118.is
+returns-in-118 c = c.only.ensures ∙ by_letter 0 c.args.w.now (keywords_of 3) (byte "v") c.in-118.is
 
 pub returns-in-112 : goal.returns-in-112
-returns-in-112 c = c.only-in-112.ensures ∙ by_letter 0 c.args.w.now 19 (keywords_of 3) (byte "p") c.in-112.is
+returns-in-112 c = c.only-in-112.ensures ∙ by_letter 0 c.args.w.now (keywords_of 3) (byte "p") c.in-112.is
 
 pub returns-in_default : goal.returns-in_default
-returns-in_default c = sym (no_candidate (letter 0) (bytes "vp") c.args.w.now 19 (keywords_of 3) refl (search nums))
+returns-in_default c = sym (no_candidate (letter 0) (bytes "vp") c.args.w.now (keywords_of 3) refl (search nums))

@@ -7,17 +7,11 @@ use Rattle.instructions.specs.Candidates.{letter, keywords_of}
 use Rattle.instructions.proofs.Candidates.{by_letter, no_candidate}
 use Rattle.instructions.proofs.keywords.of_twelve.Goals as goal
 
-pub only-requires : goal.only-requires
-only-requires c = tt
-
-pub only-requires-in-100 : goal.only-requires-in-100
-only-requires-in-100 c = tt
-
 pub returns-in-114 : goal.returns-in-114
-returns-in-114 c = c.only.ensures ∙ by_letter 0 c.args.w.now 19 (keywords_of 12) (byte "r") c.in-114.is
+returns-in-114 c = c.only.ensures ∙ by_letter 0 c.args.w.now (keywords_of 12) (byte "r") c.in-114.is
 
 pub returns-in-100 : goal.returns-in-100
-returns-in-100 c = c.only-in-100.ensures ∙ by_letter 0 c.args.w.now 19 (keywords_of 12) (byte "d") c.in-100.is
+returns-in-100 c = c.only-in-100.ensures ∙ by_letter 0 c.args.w.now (keywords_of 12) (byte "d") c.in-100.is
 
 pub returns-in_default : goal.returns-in_default
-returns-in_default c = sym (no_candidate (letter 0) (bytes "rd") c.args.w.now 19 (keywords_of 12) refl (search nums))
+returns-in_default c = sym (no_candidate (letter 0) (bytes "rd") c.args.w.now (keywords_of 12) refl (search nums))

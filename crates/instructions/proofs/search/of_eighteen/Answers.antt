@@ -7,17 +7,11 @@ use Rattle.instructions.specs.Candidates.{letter, instructions_of}
 use Rattle.instructions.proofs.Candidates.{by_letter, no_candidate}
 use Rattle.instructions.proofs.search.of_eighteen.Goals as goal
 
-pub of_eighteen_by_s-requires : goal.of_eighteen_by_s-requires
-of_eighteen_by_s-requires c = c.requires
-
-pub of_eighteen_by_u-requires : goal.of_eighteen_by_u-requires
-of_eighteen_by_u-requires c = c.requires
-
 pub returns-in-115 : goal.returns-in-115
-returns-in-115 c = c.of_eighteen_by_s.ensures ∙ by_letter 0 c.args.w.now 59 (instructions_of 18) (byte "s") c.in-115.is
+returns-in-115 c = c.of_eighteen_by_s.ensures ∙ by_letter 0 c.args.w.now (instructions_of 18) (byte "s") c.in-115.is
 
 pub returns-in-117 : goal.returns-in-117
-returns-in-117 c = c.of_eighteen_by_u.ensures ∙ by_letter 0 c.args.w.now 59 (instructions_of 18) (byte "u") c.in-117.is
+returns-in-117 c = c.of_eighteen_by_u.ensures ∙ by_letter 0 c.args.w.now (instructions_of 18) (byte "u") c.in-117.is
 
 pub returns-in_default : goal.returns-in_default
-returns-in_default c = sym (no_candidate (letter 0) (bytes "su") c.args.w.now 59 (instructions_of 18) refl (search nums))
+returns-in_default c = sym (no_candidate (letter 0) (bytes "su") c.args.w.now (instructions_of 18) refl (search nums))

@@ -7,23 +7,14 @@ use Rattle.instructions.specs.Candidates.{letter, beginning, instructions_of}
 use Rattle.instructions.proofs.Candidates.{by_letter, no_candidate}
 use Rattle.instructions.proofs.search.of_six_by_s.Goals as goal
 
-pub either-requires : goal.either-requires
-either-requires c = tt
-
-pub either-requires-in-104 : goal.either-requires-in-104
-either-requires-in-104 c = tt
-
-pub only-requires : goal.only-requires
-only-requires c = tt
-
 pub returns-in-117 : goal.returns-in-117
-returns-in-117 c = c.either.ensures ∙ by_letter 1 c.args.w.now 59 (beginning (byte "s") (instructions_of 6)) (byte "u") c.in-117.is
+returns-in-117 c = c.either.ensures ∙ by_letter 1 c.args.w.now (beginning (byte "s") (instructions_of 6)) (byte "u") c.in-117.is
 
 pub returns-in-104 : goal.returns-in-104
-returns-in-104 c = c.either-in-104.ensures ∙ by_letter 1 c.args.w.now 59 (beginning (byte "s") (instructions_of 6)) (byte "h") c.in-104.is
+returns-in-104 c = c.either-in-104.ensures ∙ by_letter 1 c.args.w.now (beginning (byte "s") (instructions_of 6)) (byte "h") c.in-104.is
 
 pub returns-in-101 : goal.returns-in-101
-returns-in-101 c = c.only.ensures ∙ by_letter 1 c.args.w.now 59 (beginning (byte "s") (instructions_of 6)) (byte "e") c.in-101.is
+returns-in-101 c = c.only.ensures ∙ by_letter 1 c.args.w.now (beginning (byte "s") (instructions_of 6)) (byte "e") c.in-101.is
 
 pub returns-in_default : goal.returns-in_default
-returns-in_default c = sym (no_candidate (letter 1) (bytes "uhe") c.args.w.now 59 (beginning (byte "s") (instructions_of 6)) refl (search nums))
+returns-in_default c = sym (no_candidate (letter 1) (bytes "uhe") c.args.w.now (beginning (byte "s") (instructions_of 6)) refl (search nums))

@@ -7,35 +7,20 @@ use Rattle.instructions.specs.Candidates.{letter, instructions_of}
 use Rattle.instructions.proofs.Candidates.{by_letter, no_candidate}
 use Rattle.instructions.proofs.search.of_three.Goals as goal
 
-pub either-requires : goal.either-requires
-either-requires c = tt
-
-pub of_three_by_s-requires : goal.of_three_by_s-requires
-of_three_by_s-requires c = c.requires
-
-pub only-requires : goal.only-requires
-only-requires c = tt
-
-pub only-requires-in-120 : goal.only-requires-in-120
-only-requires-in-120 c = tt
-
-pub either-requires-in-117 : goal.either-requires-in-117
-either-requires-in-117 c = tt
-
 pub returns-in-97 : goal.returns-in-97
-returns-in-97 c = c.either.ensures ∙ by_letter 0 c.args.w.now 59 (instructions_of 3) (byte "a") c.in-97.is
+returns-in-97 c = c.either.ensures ∙ by_letter 0 c.args.w.now (instructions_of 3) (byte "a") c.in-97.is
 
 pub returns-in-115 : goal.returns-in-115
-returns-in-115 c = c.of_three_by_s.ensures ∙ by_letter 0 c.args.w.now 59 (instructions_of 3) (byte "s") c.in-115.is
+returns-in-115 c = c.of_three_by_s.ensures ∙ by_letter 0 c.args.w.now (instructions_of 3) (byte "s") c.in-115.is
 
 pub returns-in-109 : goal.returns-in-109
-returns-in-109 c = c.only.ensures ∙ by_letter 0 c.args.w.now 59 (instructions_of 3) (byte "m") c.in-109.is
+returns-in-109 c = c.only.ensures ∙ by_letter 0 c.args.w.now (instructions_of 3) (byte "m") c.in-109.is
 
 pub returns-in-120 : goal.returns-in-120
-returns-in-120 c = c.only-in-120.ensures ∙ by_letter 0 c.args.w.now 59 (instructions_of 3) (byte "x") c.in-120.is
+returns-in-120 c = c.only-in-120.ensures ∙ by_letter 0 c.args.w.now (instructions_of 3) (byte "x") c.in-120.is
 
 pub returns-in-117 : goal.returns-in-117
-returns-in-117 c = c.either-in-117.ensures ∙ by_letter 0 c.args.w.now 59 (instructions_of 3) (byte "u") c.in-117.is
+returns-in-117 c = c.either-in-117.ensures ∙ by_letter 0 c.args.w.now (instructions_of 3) (byte "u") c.in-117.is
 
 pub returns-in_default : goal.returns-in_default
-returns-in_default c = sym (no_candidate (letter 0) (bytes "asmxu") c.args.w.now 59 (instructions_of 3) refl (search nums))
+returns-in_default c = sym (no_candidate (letter 0) (bytes "asmxu") c.args.w.now (instructions_of 3) refl (search nums))

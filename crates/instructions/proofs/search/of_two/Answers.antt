@@ -7,23 +7,14 @@ use Rattle.instructions.specs.Candidates.{letter, instructions_of}
 use Rattle.instructions.proofs.Candidates.{by_letter, no_candidate}
 use Rattle.instructions.proofs.search.of_two.Goals as goal
 
-pub only-requires : goal.only-requires
-only-requires c = tt
-
-pub only-requires-in-101 : goal.only-requires-in-101
-only-requires-in-101 c = tt
-
-pub only-requires-in-110 : goal.only-requires-in-110
-only-requires-in-110 c = tt
-
 pub returns-in-111 : goal.returns-in-111
-returns-in-111 c = c.only.ensures ∙ by_letter 0 c.args.w.now 59 (instructions_of 2) (byte "o") c.in-111.is
+returns-in-111 c = c.only.ensures ∙ by_letter 0 c.args.w.now (instructions_of 2) (byte "o") c.in-111.is
 
 pub returns-in-101 : goal.returns-in-101
-returns-in-101 c = c.only-in-101.ensures ∙ by_letter 0 c.args.w.now 59 (instructions_of 2) (byte "e") c.in-101.is
+returns-in-101 c = c.only-in-101.ensures ∙ by_letter 0 c.args.w.now (instructions_of 2) (byte "e") c.in-101.is
 
 pub returns-in-110 : goal.returns-in-110
-returns-in-110 c = c.only-in-110.ensures ∙ by_letter 0 c.args.w.now 59 (instructions_of 2) (byte "n") c.in-110.is
+returns-in-110 c = c.only-in-110.ensures ∙ by_letter 0 c.args.w.now (instructions_of 2) (byte "n") c.in-110.is
 
 pub returns-in_default : goal.returns-in_default
-returns-in_default c = sym (no_candidate (letter 0) (bytes "oen") c.args.w.now 59 (instructions_of 2) refl (search nums))
+returns-in_default c = sym (no_candidate (letter 0) (bytes "oen") c.args.w.now (instructions_of 2) refl (search nums))

@@ -1,26 +1,17 @@
--- `is_white` meets its contract. The loop's invariant: the ranges from the k-th on decide.
+-- `is_white` meets its contract: the table is asked range by range.
 -- Assumes nothing.
-use mathlib.Core.Path.{◌≡◌, refl, sym, ◌∙◌}
-use native.Mathlib.Omega.{arith}
+use mathlib.Core.Path.{◌∙◌}
+use Rattle.std.proofs.Common.{rules, tests}
+use Rattle.std.proofs.lemmas.Iterator.{YieldsList-from_slice}
+use Rattle.std.proofs.lemmas.Iterator.Search.{any_from_yields_List}
+use Rattle.rules.specs.declared.Range.{Range}
+use Rattle.rules.specs.Bytes.{inside}
 use Rattle.rules.specs.Space.{white, spaces}
-use Rattle.laws.proofs.Runs.{in_more}
-use Rattle.laws.proofs.Tests.{said, or_true, or_false}
-use borrow.Author.Rules.{rules}
+use Rattle.lexer.proofs.Gaps.{in-table}
 use Rattle.lexer.proofs.space.is_white.Goals as goal
 
-pub loop-k-init : goal.loop-k-init
-unfolding white
-loop-k-init c = (search rules, refl)
-
-pub returns-then-within : goal.returns-then-within
-returns-then-within c =
-    sym (c.loop-k.invariant.1 ∙ in_more spaces c.loop-k.k _ c.args.c (search rules) ∙ or_true _ _ (said c.within.ensures c.if-within.true))
-
-pub loop-k-preserved : goal.loop-k-preserved
-loop-k-preserved c =
-    (search rules, c.loop-k.invariant.1 ∙ in_more spaces c.loop-k.k _ c.args.c (search rules) ∙ or_false _ _ (said c.within.ensures c.if-within.false))
-
 pub returns : goal.returns
+unfolding white
 returns c =
-    let e : c.loop-k.k ≡ 10 = omega arith in
-    sym (rw e at c.loop-k.invariant.1)
+    any_from_yields_List (λ (r : Range). inside r.lo r.hi c.args.c) _ _ _ c.any.ensures.ran (YieldsList-from_slice spaces cc) (λ x b q k. search (rules, tests))
+    ∙ in-table spaces c.args.c

@@ -1,13 +1,9 @@
--- `within` meets its contract: by its two tests.
+-- `within` meets its contract: as `contains` says it.
 -- Assumes nothing.
-use Rattle.laws.proofs.Tests.{tests}
-use Rattle.rules.specs.Bytes.{inside}
+use Rattle.laws.proofs.Library.{contains-inside}
 use Rattle.lexer.proofs.space.within.Goals as goal
 
-pub returns-then-lo-c : goal.returns-then-lo-c
-unfolding inside
-returns-then-lo-c c = search tests
-
-pub returns-else-lo-c : goal.returns-else-lo-c
-unfolding inside
-returns-else-lo-c c = search tests
+pub returns : goal.returns
+returns c =
+    let made = c.new.ensures in
+    contains-inside c.new.result _ _ _ made.start made.end made.exhausted c.contains.ensures.value

@@ -9,9 +9,9 @@ use Rattle.laws.proofs.Tokens.{pattern-first}
 use borrow.Author.Rules.{rules}
 use Rattle.lexer.proofs.token.pattern.Goals as goal
 
-pub returns-then-s-lt1 : goal.returns-then-s-lt1
+pub returns-then-is_empty : goal.returns-then-is_empty
 unfolding pattern
-returns-then-s-lt1 c = rw (empty c.args.s.now c.if-s-lt1.true)
+returns-then-is_empty c = rw (empty c.args.s.now (search rules))
 
 pub returns-then-s-ne61 : goal.returns-then-s-ne61
 unfolding pattern

@@ -1,40 +1,20 @@
 -- `lines::statement::put_operation` meets its contract.
 -- Assumes nothing.
-use native.Mathlib.Nat.{le_refl}
+use Rattle.std.proofs.Common.{rules}
+use mathlib.Core.Path.{◌≡◌, ap}
 use Prim.Native.Nat.{◌-◌}
-use Rattle.pieces.proofs.Chains.{least_within, chain_more, chain_fits, chain_done}
-use Rattle.lines.proofs.Sides.{operation_begin}
+use native.Mathlib.Omega.{arith}
+use Rattle.rules.specs.Instructions.{instruction_name}
+use Rattle.laws.proofs.Over.{written}
+use Rattle.output.proofs.Words.{put_wrote, first, next, last}
+use Rattle.lines.proofs.Sides.{operation_pieces}
 use Rattle.lines.proofs.statement.put_operation.Goals as goal
-
-pub instruction_of-requires : goal.instruction_of-requires
-instruction_of-requires c = tt
-
-pub put_instruction-n-requires : goal.put_instruction-n-requires
-put_instruction-n-requires c = tt
-
-pub least-at-requires : goal.least-at-requires
-least-at-requires c = tt
-
-pub slice_bounds-put_operands-count : goal.slice_bounds-put_operands-count
-slice_bounds-put_operands-count c = least_within _ c.least-at.ensures
-
-pub slice_bounds-put_operands-start : goal.slice_bounds-put_operands-start
-slice_bounds-put_operands-start c = least_within _ c.least-at.ensures
-
-pub slice_bounds-put_operands-end : goal.slice_bounds-put_operands-end
-slice_bounds-put_operands-end c = le_refl _
-
-pub put_operands-requires : goal.put_operands-requires
-put_operands-requires c = c.requires
-
-pub overflow_add-result : goal.overflow_add-result
-overflow_add-result c =
-    let a = c.args in
-    let g1 = operation_begin a.text.now c.requires.text_len_bound a.statements.now a.operands.now (a.row.code - 1) c.instruction_of.ensures a.row.operands c.requires.few c.put_instruction-n.ensures in
-    record { fits = chain_fits g1 c.put_operands.ensures }
 
 pub returns : goal.returns
 returns c =
-    let a = c.args in
-    let g1 = operation_begin a.text.now c.requires.text_len_bound a.statements.now a.operands.now (a.row.code - 1) c.instruction_of.ensures a.row.operands c.requires.few c.put_instruction-n.ensures in
-    chain_done (chain_more g1 c.least-at.ensures c.put_operands.ensures)
+    last
+    (next
+    (first (operation_pieces _ _)
+    (c.append.ensures (instruction_name (c.args.row.code - 1))
+    (λ rest n left p b. put_wrote b (written (ap instruction_name (let e : c.args.row.code - 1 ≡ c.saturating_sub.result = omega (arith, c.saturating_sub.ensures) in e)) (search rules)))))
+    c.put_operands.ensures)

@@ -9,20 +9,8 @@ use Rattle.listing.proofs.marks.clear_marks.Goals as goal
 pub loop-i-init : goal.loop-i-init
 loop-i-init c = record { low = omega arith; long = refl; zeros = λ j h. absurd (not-suc-le-zero h) }
 
-pub offset_bounds-work-i : goal.offset_bounds-work-i
-offset_bounds-work-i c = omega arith
-
-pub bounds-work-i : goal.bounds-work-i
-bounds-work-i c = omega arith
-
-pub overflow_add-i : goal.overflow_add-i
-overflow_add-i c = omega arith
-
-pub loop-i-smaller : goal.loop-i-smaller
-loop-i-smaller c = omega arith
-
 pub loop-i-preserved : goal.loop-i-preserved
 loop-i-preserved c = clearing_more _ _ _ _ c.loop-i.invariant c.loop-i-test.true c.requires
 
 pub returns : goal.returns
-returns c = clearing_done _ _ _ _ c.loop-i.invariant c.loop-i-test.false
+returns c = clearing_done _ _ _ _ c.loop-i.invariant (omega arith)

@@ -1,13 +1,9 @@
 -- `pieces::operand::put_number` meets its contract.
 -- Assumes nothing.
+use Rattle.std.proofs.Common.{rules}
+use Rattle.output.proofs.Words.{put_wrote}
 use Rattle.pieces.proofs.Decimals.{decimal-wrote}
 use Rattle.pieces.proofs.operand.put_number.Goals as goal
 
-pub small-requires : goal.small-requires
-small-requires c = tt
-
-pub write_decimal-requires : goal.write_decimal-requires
-write_decimal-requires c = tt
-
 pub returns : goal.returns
-returns c = decimal-wrote c.small.ensures c.write_decimal.ensures
+returns c = c.append.ensures _ (λ rest n left p b. put_wrote b (decimal-wrote c.from-number.ensures (search rules)))

@@ -1,38 +1,12 @@
 -- `pieces::operand::put_typing` meets its contract.
 -- Assumes nothing.
-use native.Mathlib.Nat.{le_refl}
-use Rattle.laws.proofs.Over.{written, nothing}
-use Rattle.pieces.proofs.Chains.{least_within, chain_more, chain_fits, chain_done}
-use Rattle.pieces.proofs.Wholes.{typing_begin, typing_none}
+use native.Mathlib.Omega.{arith}
+use Rattle.output.proofs.Words.{first, next, last, writes_as, writes_none}
+use Rattle.pieces.proofs.Wholes.{typing_none, typing_pieces}
 use Rattle.pieces.proofs.operand.put_typing.Goals as goal
 
-pub returns-then-width-eq0 : goal.returns-then-width-eq0
-returns-then-width-eq0 c = written (typing_none _ c.if-width-eq0.true) nothing
+pub returns-then-width-ne0 : goal.returns-then-width-ne0
+returns-then-width-ne0 c = last (next (first (typing_pieces _ c.if-width-ne0.true) c.put.ensures) c.put_number.ensures)
 
-pub put-n-requires : goal.put-n-requires
-put-n-requires c = tt
-
-pub least-at-requires : goal.least-at-requires
-least-at-requires c = tt
-
-pub slice_bounds-put_number-count : goal.slice_bounds-put_number-count
-slice_bounds-put_number-count c = least_within _ c.least-at.ensures
-
-pub slice_bounds-put_number-start : goal.slice_bounds-put_number-start
-slice_bounds-put_number-start c = least_within _ c.least-at.ensures
-
-pub slice_bounds-put_number-end : goal.slice_bounds-put_number-end
-slice_bounds-put_number-end c = le_refl _
-
-pub put_number-requires : goal.put_number-requires
-put_number-requires c = tt
-
-pub overflow_add-result : goal.overflow_add-result
-overflow_add-result c =
-    let g1 = typing_begin c.args.width c.if-width-eq0.false c.put-n.ensures in
-    record { fits = chain_fits g1 c.put_number.ensures }
-
-pub returns : goal.returns
-returns c =
-    let g1 = typing_begin c.args.width c.if-width-eq0.false c.put-n.ensures in
-    chain_done (chain_more g1 c.least-at.ensures c.put_number.ensures)
+pub returns-else-width-ne0 : goal.returns-else-width-ne0
+returns-else-width-ne0 c = writes_as (typing_none _ (omega (arith, c.if-width-ne0.false))) (writes_none _)

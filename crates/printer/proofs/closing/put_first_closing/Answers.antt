@@ -2,32 +2,24 @@
 -- Assumes nothing.
 use mathlib.Core.Path.{ap}
 use mathlib.Core.List.{[]}
+use native.Mathlib.Omega.{arith}
 use Rattle.rules.specs.Syntax.{Closing}
+use Rattle.output.proofs.Words.{writes_as}
 use Rattle.rules.specs.Printing.{first_closing}
-use Rattle.laws.proofs.Over.{written}
 use Rattle.printer.proofs.ByKind.{replacement-closing, candidate-closing, left-closing, right_closing}
 use Rattle.printer.proofs.closing.put_first_closing.Goals as goal
 
-pub put_infer-requires : goal.put_infer-requires
-put_infer-requires c = record { text_len_bound = c.requires.text_len_bound; few = c.requires.few_attributes }
-
-pub returns-then-item-eq-INFER_RESULT : goal.returns-then-item-eq-INFER_RESULT
-returns-then-item-eq-INFER_RESULT c = written (ap (λ (c : Closing). first_closing c []) (replacement-closing _ _ _ _ c.args.item c.if-item-eq-INFER_RESULT.true)) c.put_infer.ensures
-
 pub put_cand-requires : goal.put_cand-requires
-put_cand-requires c = record { text_len_bound = c.requires.text_len_bound; i_bound = c.requires.few.first; few = c.requires.few_attributes }
+put_cand-requires c = c.requires
 
-pub returns-then-item-eq-CANDIDATE : goal.returns-then-item-eq-CANDIDATE
-returns-then-item-eq-CANDIDATE c = written (ap (λ (c : Closing). first_closing c []) (candidate-closing _ _ _ _ c.args.item c.if-item-eq-CANDIDATE.true)) c.put_cand.ensures
+pub returns-in-1 : goal.returns-in-1
+returns-in-1 c = writes_as (ap (λ (l : Closing). first_closing l []) (replacement-closing _ _ _ _ c.args.item c.in-1.is)) c.put_infer.ensures
 
-pub put_infer-requires-then-item-eq-LEFT_HAND_SIDE : goal.put_infer-requires-then-item-eq-LEFT_HAND_SIDE
-put_infer-requires-then-item-eq-LEFT_HAND_SIDE c = record { text_len_bound = c.requires.text_len_bound; few = c.requires.few_attributes }
+pub returns-in-2 : goal.returns-in-2
+returns-in-2 c = writes_as (ap (λ (l : Closing). first_closing l []) (candidate-closing _ _ _ _ c.args.item c.in-2.is)) c.put_cand.ensures
 
-pub returns-then-item-eq-LEFT_HAND_SIDE : goal.returns-then-item-eq-LEFT_HAND_SIDE
-returns-then-item-eq-LEFT_HAND_SIDE c = written (ap (λ (c : Closing). first_closing c []) (left-closing _ _ _ _ c.args.item c.if-item-eq-LEFT_HAND_SIDE.true)) c.put_infer-then-item-eq-LEFT_HAND_SIDE.ensures
+pub returns-in-3 : goal.returns-in-3
+returns-in-3 c = writes_as (ap (λ (l : Closing). first_closing l []) (left-closing _ _ _ _ c.args.item c.in-3.is)) c.put_infer-in-3.ensures
 
-pub put_result-requires : goal.put_result-requires
-put_result-requires c = c.requires.text_len_bound
-
-pub returns : goal.returns
-returns c = written (ap (λ (c : Closing). first_closing c []) (right_closing _ _ _ _ c.args.item c.if-item-eq-INFER_RESULT.false c.if-item-eq-CANDIDATE.false c.if-item-eq-LEFT_HAND_SIDE.false)) c.put_result.ensures
+pub returns-in_default : goal.returns-in_default
+returns-in_default c = writes_as (ap (λ (l : Closing). first_closing l []) (right_closing _ _ _ _ c.args.item (λ e. omega (arith, e)) (λ e. omega (arith, e)) (λ e. omega (arith, e)))) c.put_result.ensures

@@ -1,30 +1,23 @@
--- `reader::attributes::attributes_of` meets its contract. The loop's invariant: what is left to read from the look on gives what the rule gives.
+-- `reader::attributes::attributes_of` meets its contract.
 -- Assumes nothing.
-use mathlib.Core.Path.{refl, sym, ◌∙◌}
-use mathlib.Core.List.{[]}
-use borrow.Author.Tests.{eqb-true}
-use borrow.Author.Rules.{rules}
-use lib.Dec.{eqb}
-use Rattle.laws.proofs.Tests.{said, and_left}
-use Rattle.reading.proofs.Loops.{attribute_ahead, attributes_look, attributes-again, attributes_done, attribute_falls}
+use Rattle.std.proofs.Common.{rules}
+use Rattle.reader.proofs.Loops.{none_yet, turn, over, fails, blind, falls, attributes_loop}
 use Rattle.reader.proofs.attributes.attributes_of.Goals as goal
 
-pub loop-attributes-init : goal.loop-attributes-init
-loop-attributes-init c = ((λ I S O. refl), refl)
+pub loop-p-init : goal.loop-p-init
+loop-p-init c = none_yet _ _
 
-pub loop-attributes-smaller : goal.loop-attributes-smaller
-loop-attributes-smaller c =
-    let more = said c.open_paren_ahead.ensures c.loop-attributes-test.true in
-    let after = c.attribute-t.new.attributes in
-    attribute_falls _ _ _ _ [] [] [] _ [] [] [] after (eqb-true _ _ (and_left (eqb c.loop-attributes.t.fault 0) (attribute_ahead c.loop-attributes.t) more)) (c.attribute-t.ensures [] [] []) (c.lookahead-t-in-loop-attributes.ensures [] [] [] after)
+pub loop-p-smaller : goal.loop-p-smaller
+loop-p-smaller c = falls attributes_loop _ _ _ _ c.in_ok-open_paren_ahead.ensures c.in_ok-attribute.ensures
 
-pub loop-attributes-preserved : goal.loop-attributes-preserved
-loop-attributes-preserved c =
-    let more = said c.open_paren_ahead.ensures c.loop-attributes-test.true in
-    let after = c.attribute-t.new.attributes in
-    ((λ I S O. c.loop-attributes.invariant.0 I S O ∙ attributes-again _ _ _ _ I S O _ I S O after more (c.attribute-t.ensures I S O) (c.lookahead-t-in-loop-attributes.ensures I S O after)), search rules)
+pub loop-p-preserved : goal.loop-p-preserved
+loop-p-preserved c = turn attributes_loop _ _ _ _ _ c.if-branch.true c.loop-p.invariant c.in_ok-open_paren_ahead.ensures c.in_ok-attribute.ensures
+
+pub returns-in_err-open_paren_ahead : goal.returns-in_err-open_paren_ahead
+returns-in_err-open_paren_ahead c = blind attributes_loop _ _ _ _ _ (search rules) c.loop-p.invariant c.in_err-open_paren_ahead.ensures
+
+pub returns-in_err-attribute : goal.returns-in_err-attribute
+returns-in_err-attribute c = fails attributes_loop _ _ _ _ _ _ _ c.if-branch.true (search rules) c.loop-p.invariant c.in_ok-open_paren_ahead.ensures c.in_err-attribute.ensures
 
 pub returns : goal.returns
-returns c I S O =
-    let none = said c.open_paren_ahead.ensures c.loop-attributes-test.false in
-    attributes_done _ _ I S O _ none ∙ sym (c.loop-attributes.invariant.0 I S O) ∙ sym (attributes_look _ _ _ I S O _ (c.lookahead-t.ensures I S O _))
+returns c = over attributes_loop _ _ _ _ c.if-branch.false c.loop-p.invariant c.in_ok-open_paren_ahead.ensures

@@ -1,16 +1,12 @@
--- `reader::attributes::attributes_of` meets its contract. The loop's invariant: what is left to read from the look on gives what the rule gives.
+-- `reader::attributes::attributes_of` meets its contract: what is left to read behind each turn is what the rule reads, and each turn claims a row.
 -- Assumes nothing.
-use Prim.Native.Nat.{ℕ}
-use mathlib.Core.Path.{◌≡◌}
-use mathlib.Core.List.{List}
-use lib.ListN.{length}
-use Rattle.tables.specs.Stands.{stands, run}
-use Rattle.reading.proofs.Loops.{attributes_from, weight}
+use Rattle.std.proofs.Common.{◌-◌}
+use Rattle.rules.specs.Reading as R
+use Rattle.reader.proofs.Loops.{SoFar}
 use Rattle.reader.proofs.attributes.attributes_of.Given as goal
 
-abbrev pub invariant-loop-attributes : goal.invariant-loop-attributes
-invariant-loop-attributes l =
-    ((I S O : List ℕ) → run (stands l.text l.initial.t I S O l.initial.attributes) (attributes_from l.initial.t) ≡ run (stands l.text l.t I S O l.attributes) (attributes_from l.t)) × (length l.attributes ≡ length l.initial.attributes)
+abbrev pub invariant-loop-p : goal.invariant-loop-p
+invariant-loop-p l = SoFar R.attributes l.initial.p l.p
 
-abbrev pub decreases-loop-attributes : goal.decreases-loop-attributes
-decreases-loop-attributes l = weight l.t.fault l.t.attributes
+abbrev pub decreases-loop-p : goal.decreases-loop-p
+decreases-loop-p l = 65536 - l.p.counts.attributes

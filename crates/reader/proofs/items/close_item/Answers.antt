@@ -1,16 +1,23 @@
 -- `reader::items::close_item` meets its contract.
 -- Assumes nothing.
+use Rattle.std.proofs.Common.{refl, rules}
 use Rattle.rules.specs.Reading as R
-use Rattle.tables.specs.Stands.{world}
-use Rattle.tables.proofs.Chains as chain
+use Rattle.parser.specs.Stands.{world}
+use Rattle.parser.proofs.Steps.{then, stops, seen}
 use Rattle.reader.proofs.Closing.{scope_ends}
 use Rattle.reader.proofs.items.close_item.Goals as goal
 
+pub returns-in_err-claim_item : goal.returns-in_err-claim_item
+unfolding R.close_item world
+returns-in_err-claim_item c =
+    seen _ _ _ _ _ _ _ refl
+    (seen _ _ _ _ _ _ _ refl
+    (stops _ _ _ _ _ _ _ _ (search rules) c.in_err-claim_item.ensures))
+
 pub returns : goal.returns
 unfolding R.close_item world
-returns c text S O A =
-    let I = c.args.items.now in
-    chain.seen _ _ I S O A _ _ _
-    (chain.seen _ _ I S O A _ _ _
-    (chain.then _ _ _ _ _ _ _ _ _ _ _ (c.claim_item-t.ensures text S O A)
-    (scope_ends _ _ _ S O A _)))
+returns c =
+    seen _ _ _ _ _ _ _ refl
+    (seen _ _ _ _ _ _ _ refl
+    (then _ _ _ _ _ _ _ _ _ c.in_ok-claim_item.ensures
+    (scope_ends _ _ _ _ c.in_ok-claim_item.ensures c.end_scope.ensures)))

@@ -1,31 +1,25 @@
-use mathlib.Core.List.{[]}
-use Rattle.index.proofs.Steady.{token_steady, block_steady}
-use Rattle.index.proofs.Reader.{ready-kept}
-use Rattle.reader.proofs.Blocks.{number-seen}
+-- `reader::sides::phi_side` meets its contract.
+-- Assumes nothing.
+use Rattle.std.proofs.Common.{refl, ◌∙◌, rules}
 use Rattle.rules.specs.Reading as R
-use Rattle.rules.specs.World as W
-use Rattle.tables.proofs.Chains as chain
+use Rattle.parser.specs.Stands.{world}
+use Rattle.parser.proofs.Steps.{then, stops, seen, gives}
+use Rattle.reader.proofs.Blocks.{number-seen}
 use Rattle.reader.proofs.sides.phi_side.Goals as goal
 
-pub block-b-requires : goal.block-b-requires
-block-b-requires c =
-    let S = c.args.statements.now in
-    let O = c.args.operands.now in
-    record { text_len_bound = c.requires.text_len_bound; ready = ready-kept token_steady _ _ _ [] S O [] [] O [] c.args.index.now _ (c.token.ensures [] S O []) c.requires.ready }
-
-pub further_operands-t-requires : goal.further_operands-t-requires
-further_operands-t-requires c =
-    let S = c.args.statements.now in
-    let O = c.args.operands.now in
-    let k = ready-kept token_steady _ _ _ [] S O [] [] O [] c.args.index.now _ (c.token.ensures [] S O []) c.requires.ready in
-    record { text_len_bound = c.requires.text_len_bound; ready = ready-kept block_steady _ _ _ [] S O [] [] O [] c.args.index.now _ (c.block-b.ensures [] O []) k }
+pub returns-in_err-further_operands : goal.returns-in_err-further_operands
+unfolding R.phi_side world
+returns-in_err-further_operands c =
+    then _ _ _ _ _ _ _ _ _ c.in_ok-token.ensures
+    (then _ _ _ _ _ _ _ _ _ c.in_ok-block.ensures
+    (seen _ _ _ _ _ _ _ (c.number_of-n.ensures ∙ number-seen _ _ _ c.in_ok-block.ensures)
+    (stops _ _ _ _ _ _ _ _ (search rules) c.in_err-further_operands.ensures)))
 
 pub returns : goal.returns
-unfolding R.phi_side
-returns c I A =
-    chain.then _ _ _ _ _ _ _ _ _ _ _ (c.token.ensures I c.args.statements.now c.args.operands.now A)
-    (chain.then _ _ _ _ _ _ _ _ _ _ _ (c.block-b.ensures I c.args.operands.now A)
-    (chain.seen _ _ I _ _ A _ _ _
-    (chain.alike_if _ _ I _ _ A (W.◌>>◌ (R.further_operands c.number_at.result) (W.give (R.side 62 0 c.block-b.result.value))) _ _
-    (chain.then _ _ _ _ _ _ _ _ _ _ _ (c.further_operands-t.ensures I A) (c.with_side.ensures _ I _ _ A))
-    (λ z. rw (c.number_at.ensures, number-seen _ _ _ I _ _ A _ (c.block-b.ensures I c.args.operands.now A) z)))))
+unfolding R.phi_side world
+returns c =
+    then _ _ _ _ _ _ _ _ _ c.in_ok-token.ensures
+    (then _ _ _ _ _ _ _ _ _ c.in_ok-block.ensures
+    (seen _ _ _ _ _ _ _ (c.number_of-n.ensures ∙ number-seen _ _ _ c.in_ok-block.ensures)
+    (then _ _ _ _ _ _ _ _ _ c.in_ok-further_operands.ensures
+    (gives _ _ _ _ refl))))

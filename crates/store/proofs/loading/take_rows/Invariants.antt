@@ -2,13 +2,9 @@
 -- Assumes nothing.
 use mathlib.Core.Path.{◌≡◌}
 use mathlib.Core.List.{◌++◌}
-use Prim.Native.Nat.{◌-◌, ◌≤◌}
-use lib.ListN.{length, take, drop}
+use lib.ListN.{take, drop}
 use Rattle.rules.specs.Stored.{in_words}
 use Rattle.store.proofs.loading.take_rows.Given as goal
 
 abbrev pub invariant-loop-i : goal.invariant-loop-i
-invariant-loop-i l = (l.i ≤ l.n) × ((l.table ≡ take l.i (in_words l.bytes) ++ drop l.i l.initial.table) × (length l.table ≡ length l.initial.table))
-
-abbrev pub decreases-loop-i : goal.decreases-loop-i
-decreases-loop-i l = l.n - l.i
+invariant-loop-i l = l.table ≡ take l.i (in_words l.bytes) ++ drop l.i l.initial.table

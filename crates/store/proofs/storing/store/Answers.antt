@@ -38,36 +38,36 @@ overflow_mul-a c =
     Sized a.text.now a.items.now a.statements.now a.operands.now a.attributes.now (counts a.item_count a.statement_count a.operand_count a.attribute_count) = sized _ _ _ _ _ _ (said_not_not c.well_formed-2.ensures c.if-not-well_formed.false-raw) in
     omega (arith, sized-here.small.attributes)
 
-pub slice_bounds-store_rows-end : goal.slice_bounds-store_rows-end
-slice_bounds-store_rows-end c =
+pub slice_bounds-file-end : goal.slice_bounds-file-end
+slice_bounds-file-end c =
     let sized-here : let a = c.args in
     Sized a.text.now a.items.now a.statements.now a.operands.now a.attributes.now (counts a.item_count a.statement_count a.operand_count a.attribute_count) = sized _ _ _ _ _ _ (said_not_not c.well_formed-2.ensures c.if-not-well_formed.false-raw) in
     sym (length-take-le (c.args.item_count * item_length) c.args.items.now sized-here.items)
 
-pub slice_bounds-store_rows-end-2 : goal.slice_bounds-store_rows-end-2
-slice_bounds-store_rows-end-2 c =
+pub slice_bounds-file-end-2 : goal.slice_bounds-file-end-2
+slice_bounds-file-end-2 c =
     let sized-here : let a = c.args in
     Sized a.text.now a.items.now a.statements.now a.operands.now a.attributes.now (counts a.item_count a.statement_count a.operand_count a.attribute_count) = sized _ _ _ _ _ _ (said_not_not c.well_formed-2.ensures c.if-not-well_formed.false-raw) in
     sym (length-take-le (c.args.statement_count * statement_length) c.args.statements.now sized-here.statements)
 
-pub slice_bounds-store_rows-end-3 : goal.slice_bounds-store_rows-end-3
-slice_bounds-store_rows-end-3 c =
+pub slice_bounds-file-end-3 : goal.slice_bounds-file-end-3
+slice_bounds-file-end-3 c =
     let sized-here : let a = c.args in
     Sized a.text.now a.items.now a.statements.now a.operands.now a.attributes.now (counts a.item_count a.statement_count a.operand_count a.attribute_count) = sized _ _ _ _ _ _ (said_not_not c.well_formed-2.ensures c.if-not-well_formed.false-raw) in
     sym (length-take-le (c.args.operand_count * operand_length) c.args.operands.now sized-here.operands)
 
-pub slice_bounds-store_rows-end-4 : goal.slice_bounds-store_rows-end-4
-slice_bounds-store_rows-end-4 c =
+pub slice_bounds-file-end-4 : goal.slice_bounds-file-end-4
+slice_bounds-file-end-4 c =
     let sized-here : let a = c.args in
     Sized a.text.now a.items.now a.statements.now a.operands.now a.attributes.now (counts a.item_count a.statement_count a.operand_count a.attribute_count) = sized _ _ _ _ _ _ (said_not_not c.well_formed-2.ensures c.if-not-well_formed.false-raw) in
     sym (length-take-le (c.args.attribute_count * attribute_length) c.args.attributes.now sized-here.attributes)
 
-pub store_rows-requires : goal.store_rows-requires
-store_rows-requires c =
+pub invariant_of-file : goal.invariant_of-file
+invariant_of-file c =
     let sized-here : let a = c.args in
     Sized a.text.now a.items.now a.statements.now a.operands.now a.attributes.now (counts a.item_count a.statement_count a.operand_count a.attribute_count) = sized _ _ _ _ _ _ (said_not_not c.well_formed-2.ensures c.if-not-well_formed.false-raw) in
-    (sized-here.letters, counted-few _ _ _ _ _ _ sized-here)
+    record { letters = sized-here.letters; few = counted-few _ _ _ _ _ _ sized-here }
 
 pub returns : goal.returns
 unfolding stored
-returns c = well _ _ _ _ _ _ _ (said_not_not c.well_formed-2.ensures c.if-not-well_formed.false-raw) c.store_rows.ensures
+returns c = well _ _ _ _ _ _ _ (said_not_not c.well_formed-2.ensures c.if-not-well_formed.false-raw) c.store_file.ensures

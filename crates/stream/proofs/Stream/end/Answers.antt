@@ -5,9 +5,9 @@ use Rattle.laws.proofs.Tests.{nums}
 use Rattle.stream.proofs.Streams.{ends}
 use Rattle.stream.proofs.Stream.end.Goals as goal
 
-pub returns-then-seen-gt65536 : goal.returns-then-seen-gt65536
+pub returns-then-self-gt65536 : goal.returns-then-self-gt65536
 unfolding ended concluded
-returns-then-seen-gt65536 c = ends (simp c.told.ensures (search nums))
+returns-then-self-gt65536 c = ends (simp c.refused.ensures (search nums))
 
 pub returns-in-Between : goal.returns-in-Between
 unfolding ended concluded
@@ -15,8 +15,8 @@ returns-in-Between c = ends (simp (c.finish.ensures, c.in-Between.is) (search nu
 
 pub returns-in-Inside : goal.returns-in-Inside
 unfolding ended concluded
-returns-in-Inside c = ends (simp (c.told-in-Inside.ensures, c.wide.ensures, c.in-Inside.is) (search nums))
+returns-in-Inside c = ends (simp (c.refused-in-Inside.ensures, c.into.ensures, c.in-Inside.is) (search nums))
 
 pub returns-in-Bad : goal.returns-in-Bad
 unfolding ended concluded
-returns-in-Bad c = ends (simp (c.told-in-Bad.ensures, c.wide-in-Bad.ensures, c.in-Bad.is) (search nums))
+returns-in-Bad c = ends (simp (c.refused-in-Bad.ensures, c.into-in-Bad.ensures, c.in-Bad.is) (search nums))

@@ -1,13 +1,8 @@
--- `short_part` meets its contract. The loop's invariant: what is left, fed to the state as it is now, comes to the whole part fed to the state at the start.
+-- `short_part` meets its contract. The loop's invariant: the state is what the bytes so far lead to.
 -- Assumes nothing.
-use Prim.Native.Nat.{◌-◌, ◌≤◌}
-use mathlib.Core.Path.{◌≡◌}
-use lib.ListN.{length, drop}
-use Rattle.stream.specs.Steps.{fed}
+use Rattle.std.proofs.Common.{◌≡◌, take, fold}
+use Rattle.stream.specs.Steps.{stepped}
 use Rattle.stream.proofs.Stream.short_part.Given as goal
 
-abbrev pub invariant-loop-i : goal.invariant-loop-i
-invariant-loop-i l = (l.i ≤ length l.bytes) × (fed l.initial.state l.bytes ≡ fed l.state (drop l.i l.bytes))
-
-abbrev pub decreases-loop-i : goal.decreases-loop-i
-decreases-loop-i l = length l.bytes - l.i
+abbrev pub invariant-loop-b : goal.invariant-loop-b
+invariant-loop-b l = l.state ≡ fold stepped l.initial.state (take l.b-index l.bytes)

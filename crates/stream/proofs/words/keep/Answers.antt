@@ -11,9 +11,9 @@ returns c =
     let p = c.put.ensures in
     let a = c.counted-seen.ensures in
     let t = c.counted-tokens.ensures in
-    let m = c.numbers_of_mode-m.ensures in
-    let q = c.numbers_of_sequence-q.ensures in
+    let m = c.from-m.ensures in
+    let q = c.from-q.ensures in
     record {
-      words = p ∙ state-words s _ _ _ _ _ a.value t.value m.value q.value;
-      back = ap decoded p ∙ state-back s _ _ _ _ _ (ap low_of a.value ∙ a.fits) (ap low_of t.value ∙ t.fits) m.reads_back q.reads_back;
+      words = p ∙ state-words s _ _ _ _ _ a.value t.value m.0 q.0;
+      back = ap decoded p ∙ state-back s _ _ _ _ _ (ap low_of a.value ∙ a.fits) (ap low_of t.value ∙ t.fits) m.1 q.1;
     }

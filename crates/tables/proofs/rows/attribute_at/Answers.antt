@@ -5,4 +5,4 @@ use Rattle.tables.proofs.rows.attribute_at.Goals as goal
 
 pub returns : goal.returns
 unfolding attribute_at
-returns c = cc (c.field.ensures, c.span_at.ensures, c.words_at.ensures, c.words_at-2.ensures)
+returns g c = cc

@@ -5,4 +5,4 @@ use Rattle.tables.proofs.rows.code_at.Goals as goal
 
 pub returns : goal.returns
 unfolding statement_at
-returns c = c.field.ensures
+returns g c = c.field.ensures

@@ -5,4 +5,4 @@ use Rattle.tables.proofs.rows.name_at.Goals as goal
 
 pub returns : goal.returns
 unfolding statement_at
-returns c = c.span_at.ensures
+returns g c = c.span_at.ensures

@@ -6,26 +6,29 @@ use native.Mathlib.Nat.{add_assoc}
 use native.Mathlib.Omega.{arith}
 use lib.ListN.{get_or, get_or-eq_default}
 use borrow.Author.Rules.{rules}
-use Rattle.rules.specs.Rows.{◌up_to◌, field}
+use Rattle.rules.specs.Rows.{field}
 use Rattle.tables.proofs.Fields.{row_fits}
 use Rattle.tables.proofs.rows.span_at.Goals as goal
 
 pub overflow_mul-at : goal.overflow_mul-at
-overflow_mul-at c = omega (arith, row_fits c.args.i c.args.length (search rules) c.requires.0)
+overflow_mul-at g c = omega (arith, row_fits c.args.i c.args.length (search rules) c.requires.0)
 
 pub overflow_add-at : goal.overflow_add-at
-overflow_add-at c = omega (arith, row_fits c.args.i c.args.length (search rules) c.requires.0)
+overflow_add-at g c = omega (arith, row_fits c.args.i c.args.length (search rules) c.requires.0)
 
 pub overflow_add-at-2 : goal.overflow_add-at-2
-overflow_add-at-2 c = omega (arith, row_fits c.args.i c.args.length (search rules) c.requires.0)
+overflow_add-at-2 g c = omega (arith, row_fits c.args.i c.args.length (search rules) c.requires.0)
 
-pub returns-then-at-table : goal.returns-then-at-table
-returns-then-at-table c =
+pub returns-then-at-count : goal.returns-then-at-count
+returns-then-at-count g c =
     let a = c.args in
-    ap (λ (at : ℕ). field a.length a.table.now a.i a.j up_to get_or a.table.now at 0) (add_assoc (a.i * a.length) a.j 1)
+    let words = g.T.Table.words a.table in
+    let next : get_or words (a.i * a.length + a.j + 1) 0 ≡ field a.length words a.i (a.j + 1) = ap (λ (at : ℕ). get_or words at 0) (add_assoc (a.i * a.length) a.j 1) in
+    cc next
 
 pub returns : goal.returns
-returns c =
+returns g c =
     let a = c.args in
-    let none : field a.length a.table.now a.i (a.j + 1) ≡ 0 = get_or-eq_default a.table.now 0 {n = a.i * a.length + (a.j + 1)} (omega arith) in
+    let words = g.T.Table.words a.table in
+    let none : field a.length words a.i (a.j + 1) ≡ 0 = get_or-eq_default words 0 {n = a.i * a.length + (a.j + 1)} (omega arith) in
     cc (c.word_at.ensures, none)

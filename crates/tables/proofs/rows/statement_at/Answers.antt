@@ -4,23 +4,17 @@ use mathlib.Core.Path.{◌≡◌, sym, ap}
 use Prim.Native.Nat.{ℕ, ◌*◌}
 use native.Mathlib.Nat.{add-zero}
 use lib.ListN.{get_or}
-use mathlib.Core.List.{List}
-use Rattle.rules.specs.declared.Statement.{Statement}
-use Rattle.rules.specs.Rows.{field, span_at, statement_length, statement_at}
+use Rattle.rules.specs.Rows.{field, statement_length, statement_at}
 use Rattle.tables.proofs.rows.statement_at.Goals as goal
 
--- the first word of a row, and the others
-row : (words : List ℕ) (i : ℕ) {k : ℕ} → k ≡ field statement_length words i 0
-    → ◌≡◌ {A = Statement} (record { code = k; name = span_at statement_length words i 1; width = field statement_length words i 3; number = field statement_length words i 4; block = field statement_length words i 5; operands = span_at statement_length words i 6; attributes = span_at statement_length words i 8 }) (statement_at words i)
+pub returns-then-at-count : goal.returns-then-at-count
 unfolding statement_at
-row words i e = rw e
-
-pub returns-then-at-statements : goal.returns-then-at-statements
-returns-then-at-statements c =
-    let words = c.args.statements.now in
+returns-then-at-count g c =
+    let words = g.T.Table.words c.args.statements in
     let i = c.args.i in
-    row words i (ap (λ (at : ℕ). get_or words at 0) (sym (add-zero (i * 10))))
+    let first : get_or words (i * 10) 0 ≡ field statement_length words i 0 = ap (λ (at : ℕ). get_or words at 0) (sym (add-zero (i * 10))) in
+    cc first
 
 pub returns : goal.returns
 unfolding statement_at
-returns c = cc (c.field.ensures, c.span_at.ensures, c.field-2.ensures, c.field-3.ensures, c.field-4.ensures, c.span_at-2.ensures, c.span_at-3.ensures)
+returns g c = cc (c.field.ensures, c.field-2.ensures, c.field-3.ensures, c.field-4.ensures)

@@ -1,26 +1,18 @@
--- `items_ok` meets its contract. The loop's invariant: the rows passed have passed the test, so the others decide.
+-- `items_ok` meets its contract.
 -- Assumes nothing.
-use mathlib.Core.Path.{ap, ◌∙◌}
+use mathlib.Core.Path.{refl, sym, ap, ◌∙◌}
 use borrow.Author.Rules.{rules}
-use Rattle.rules.specs.WellFormed.{item_ok, items_ok}
-use Rattle.laws.proofs.Tests.{said_not, said_not_not}
-use Rattle.wellformed.proofs.Along.{passing_begin, passing_more, passing_all_stop, passing_all_end}
+use Rattle.rules.specs.Rows.{item_at}
+use Rattle.rules.specs.WellFormed.{every, item_ok, items_ok}
+use Rattle.wellformed.proofs.Along.{all_rows, each_start}
 use Rattle.wellformed.proofs.item.items_ok.Goals as goal
-
-pub loop-i-init : goal.loop-i-init
-loop-i-init c = passing_begin
-
-pub returns-then-not-item_ok : goal.returns-then-not-item_ok
-unfolding items_ok
-returns-then-not-item_ok c =
-    let e = c.item_ok.ensures ∙ ap (item_ok _ _ _ _) c.item_at.ensures in
-    passing_all_stop c.loop-i.invariant (search rules) (said_not e c.if-not-item_ok.true-raw)
-
-pub loop-i-preserved : goal.loop-i-preserved
-loop-i-preserved c =
-    let e = c.item_ok.ensures ∙ ap (item_ok _ _ _ _) c.item_at.ensures in
-    passing_more c.loop-i.invariant (search rules) (said_not_not e c.if-not-item_ok.false-raw)
 
 pub returns : goal.returns
 unfolding items_ok
-returns c = passing_all_end c.loop-i.invariant (search rules)
+returns g c =
+    let l = c.args.lent.now in
+    let S = g.T.Table.words l.statements in
+    let O = g.T.Table.words l.operands in
+    let A = g.T.Table.words l.attributes in
+    all_rows _ _ _ (λ i. item_ok l.text.now S O A (item_at (g.T.Table.words l.items) i)) 0 c.args.n c.all.ensures.ran refl (λ x b t k. search rules)
+    ∙ sym (ap every (each_start _ c.args.n))

@@ -1,25 +1,18 @@
--- `attributes_owned` meets its contract. The loop's invariant: the spans passed are consecutive up to where it stands, so the others decide.
+-- `attributes_owned` meets its contract.
 -- Assumes nothing.
-use mathlib.Core.Path.{ap}
+use mathlib.Core.Path.{sym, ap, ◌∙◌}
 use borrow.Author.Rules.{rules}
-use Rattle.packed.specs.Packed.{table}
-use Rattle.rules.specs.WellFormed.{attribute_spans, attributes_owned}
-use Rattle.rules.specs.Syntax.{flat}
 use Rattle.rules.specs.Rows.{item_at}
-use Rattle.wellformed.proofs.Spans.{spans_as, spans_step, following_begin, following_more, broken_at, owned_to}
-use Rattle.wellformed.proofs.Along.{each-end, each_start}
+use Rattle.rules.specs.Syntax.{flat}
+use Rattle.rules.specs.WellFormed.{attribute_spans, attributes_owned}
+use Rattle.wellformed.proofs.Along.{each_start}
+use Rattle.wellformed.proofs.Spans.{flat_rows, attributes_as, owned_to}
 use Rattle.wellformed.proofs.owned.attributes_owned.Goals as goal
-
-pub loop-i-init : goal.loop-i-init
-loop-i-init c = following_begin
-
-pub returns-in_default : goal.returns-in_default
-unfolding attributes_owned
-returns-in_default c = broken_at c.loop-i.invariant (ap (flat _) (each_start (item_at (table c.args.items.now c.args.item_bytes.now)) c.args.n)) _ (spans_step _ _ (search rules) (spans_as c.follow_attributes.ensures (ap (attribute_spans _) c.item_at.ensures))) c.in_default.is
-
-pub loop-i-preserved : goal.loop-i-preserved
-loop-i-preserved c = following_more c.loop-i.invariant (spans_step _ _ (search rules) (spans_as c.follow_attributes.ensures (ap (attribute_spans _) c.item_at.ensures))) c.in-At.is
 
 pub returns : goal.returns
 unfolding attributes_owned
-returns c = owned_to c.loop-i.invariant (ap (flat _) (each_start (item_at (table c.args.items.now c.args.item_bytes.now)) c.args.n)) _ (ap (flat _) (each-end (item_at (table c.args.items.now c.args.item_bytes.now)) c.loop-i.i c.args.n (search rules)))
+returns g c =
+    let I = g.T.Table.words c.args.items in
+    let S = g.T.Table.words c.args.statements in
+    owned_to c.args.count (c.reach.ensures (λ i. attribute_spans S (item_at I i)) (λ i b r k. search (rules, attributes_as)))
+    (flat_rows (attribute_spans S) (item_at I) 0 _ ∙ sym (ap (flat (attribute_spans S)) (each_start (item_at I) c.args.n))) c.eq.ensures

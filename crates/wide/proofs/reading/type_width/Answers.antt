@@ -1,22 +1,24 @@
-use mathlib.Core.Path.{sym, ap, ◌∙◌}
-use Rattle.rules.specs.Integers.{positive}
-use Rattle.wide.specs.Wide.{bits, as_read}
-use Rattle.wide.proofs.Signed.{type_none, type-other, type_bad, type_is}
+use mathlib.Core.List.{List}
+use mathlib.Core.Path.{ap, ◌∙◌}
+use Prim.Native.Nat.{ℕ}
+use borrow.Author.Rules.{rules}
+use Rattle.rules.specs.Integers.{fits, positive, unsigned}
+use Rattle.wide.specs.Wide.{bits, as_field}
+use Rattle.wide.proofs.Signed.{type-other, type_bad, type_is, kept}
 use Rattle.wide.proofs.reading.type_width.Goals as goal
 
-pub returns-then-s-eq0 : goal.returns-then-s-eq0
-returns-then-s-eq0 c = type_none c.args.s.now c.if-s-eq0.true
+pub returns-in_err-digits : goal.returns-in_err-digits
+returns-in_err-digits c =
+    ap as_field c.from_residual.ensures ∙ type-other c.args.s.now c.in_err-digits.ensures.cases
 
-pub returns-then-s-ne105 : goal.returns-then-s-ne105
-returns-then-s-ne105 c = type-other c.args.s.now c.if-s-ne105.true
-
-pub returns-in_default : goal.returns-in_default
-returns-in_default c =
-    let found = sym (ap as_read c.in_default.is) ∙ c.magnitude-found.ensures in
-    type_bad c.args.s.now c.if-s-ne105.false found
+pub returns-in_err-magnitude : goal.returns-in_err-magnitude
+returns-in_err-magnitude c =
+    let h = c.in_ok-digits.ensures.cases in
+    ap as_field c.from_residual-in_err-magnitude.ensures
+    ∙ type_bad c.args.s.now h.0 (c.in_err-magnitude.ensures ∙ ap (λ (l : List ℕ). fits 128 (unsigned l)) h.1)
 
 pub returns : goal.returns
 returns c =
-    let found = sym (ap as_read c.in-Value.is) ∙ c.magnitude-found.ensures in
-    c.positive.ensures ∙ ap positive c.fits.ensures
-    ∙ type_is c.args.s.now c.if-s-ne105.false (bits c.in-Value.w) found
+    let h = c.in_ok-digits.ensures.cases in
+    kept _ _ (λ x t q. search rules) c.filter.ensures ∙ ap positive c.fits-width.ensures
+    ∙ type_is c.args.s.now h.0 (bits c.in_ok-magnitude.field-0) (c.in_ok-magnitude.ensures ∙ ap (λ (l : List ℕ). fits 128 (unsigned l)) h.1)

@@ -1,0 +1,2 @@
+-- What the contracts of the lines speak of, beside the definitions of `rules` and `pieces`.
+pub mod Sources

@@ -1,0 +1,7 @@
+-- `listing::Graph::begin` meets its contract.
+-- Assumes nothing.
+use Rattle.listing.proofs.Steps.{begun}
+use Rattle.listing.proofs.Graph.begin.Goals as goal
+
+pub returns : goal.returns
+returns c = λ so rd. begun _ _ _ so _ _ c.requires.root_lt_rows rd

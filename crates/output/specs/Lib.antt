@@ -1,0 +1,2 @@
+-- What the contracts of writers speak of.
+pub mod Writing

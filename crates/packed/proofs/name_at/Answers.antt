@@ -1,8 +1,0 @@
--- `packed::name_at` meets its contract.
--- Assumes nothing.
-use Rattle.rules.specs.Rows.{statement_at}
-use Rattle.packed.proofs.name_at.Goals as goal
-
-pub returns : goal.returns
-unfolding statement_at
-returns c = c.span_at.ensures

@@ -1,0 +1,7 @@
+use Rattle.rules.specs.Reading as R
+use Rattle.parser.specs.Stands.{int_below}
+use Rattle.parser.proofs.Parser.int_32.Goals as goal
+
+pub returns : goal.returns
+unfolding R.int_field int_below
+returns c = c.int_field.ensures

@@ -1,9 +1,0 @@
-use Rattle.rules.specs.Reading as R
-use Rattle.tables.proofs.Chains as chain
-use Rattle.reader.proofs.sides.block_side.Goals as goal
-
-pub returns : goal.returns
-unfolding R.block_side
-returns c I S O A =
-    chain.then _ _ _ _ _ _ _ _ _ _ _ (c.token.ensures I S O A)
-    (chain.then _ _ _ _ _ _ _ _ _ _ _ (c.int_32-n.ensures I S O A) (c.with_side.ensures _ I S O A))

@@ -1,8 +1,0 @@
--- `tables::rows::word_at` meets its contract.
--- Assumes nothing.
-use mathlib.Core.Path.{sym}
-use lib.ListN.{get_or-eq_default}
-use Rattle.tables.proofs.rows.word_at.Goals as goal
-
-pub returns : goal.returns
-returns c = sym (get_or-eq_default c.args.table.now 0 c.if-at-table.false)

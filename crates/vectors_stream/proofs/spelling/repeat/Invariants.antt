@@ -1,9 +1,0 @@
--- What is put stays within out, and out keeps its length.
-use Rattle.std.proofs.Common.{◌≤◌, length}
-use Rattle.vectors_stream.proofs.spelling.repeat.Given as goal
-
-abbrev pub invariant-loop-left : goal.invariant-loop-left
-invariant-loop-left l = l.n ≤ length l.out
-
-abbrev pub decreases-loop-left : goal.decreases-loop-left
-decreases-loop-left l = l.left
