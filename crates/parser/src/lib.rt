@@ -1,5 +1,6 @@
 // The parser: where it stands in a text, and the tables that it claims rows of. Its token helpers, in the order of the crate's `impl Parser`.
 // A rule of the grammar is a function over a parser. What is at fault ends the rule, and by `?` every rule that called it.
+// What is called for each token is inlined everywhere: as calls, reading takes an eighth longer.
 #![tactic(auto)]
 
 pub mod claims;
@@ -51,6 +52,7 @@ fn last_byte(text: Text) -> Spot
 }
 
 // The token at or after a byte, or none at the end of the text: each token is lexed here, once.
+#[inline(always)]
 fn lexed(text: Text, from: u32) -> Result<Option<Spot>, Fault>
     ensures { result ≡ next_of (token_at text.entry.bytes.now from) }
 {
@@ -74,6 +76,7 @@ fn lexed(text: Text, from: u32) -> Result<Option<Spot>, Fault>
 
 impl<'a, 'i> Parser<'a, 'i> {
     // The next token, looked at and not taken; none at the end of the text.
+    #[inline(always)]
     pub fn lookahead(&mut self) -> Result<Option<Spot>, Fault>
         ensures { RunsTo ahead_of R.lookahead self.old result self.new }
     {
@@ -93,6 +96,7 @@ impl<'a, 'i> Parser<'a, 'i> {
     }
 
     // The next token, taken.
+    #[inline(always)]
     pub fn token(&mut self) -> Result<Spot, Fault>
         ensures { Runs R.token self.old result self.new }
     {
@@ -117,6 +121,7 @@ impl<'a, 'i> Parser<'a, 'i> {
 
     // A token of a kind.
     #[tactic(auto, using(crate::proofs::Chains::ends), unfolding(rules::specs::Reading::expect))]
+    #[inline(always)]
     pub fn expect(&mut self, kind: u32) -> Result<Spot, Fault>
         ensures { Runs (R.expect kind) self.old result self.new }
     {
@@ -156,6 +161,7 @@ impl<'a, 'i> Parser<'a, 'i> {
 
     // The keyword that comes next, looked at and not taken.
     #[tactic(auto, using(crate::proofs::Chains::ends), unfolding(rules::specs::Reading::lookahead_ident))]
+    #[inline(always)]
     pub fn keyword_ahead(&mut self) -> Result<Option<Keyword>, Fault>
         ensures { RunsTo keyword_number R.lookahead_ident self.old result self.new }
     {
@@ -167,6 +173,7 @@ impl<'a, 'i> Parser<'a, 'i> {
 
     // Whether a token of a kind comes next.
     #[tactic(auto, using(crate::proofs::Chains::ends), unfolding(crate::specs::Stands::is_ahead))]
+    #[inline(always)]
     pub fn is_ahead(&mut self, kind: u32) -> Result<bool, Fault>
         requires { 1 ≤ kind }
         ensures { Runs (is_ahead kind) self.old result self.new }
@@ -191,6 +198,7 @@ impl<'a, 'i> Parser<'a, 'i> {
 
     // An integer.
     #[tactic(auto, using(crate::proofs::Chains::ends), unfolding(rules::specs::Reading::int))]
+    #[inline(always)]
     pub fn int(&mut self) -> Result<Wide, Fault>
         ensures { RunsTo bits R.int self.old result self.new }
     {
@@ -239,6 +247,7 @@ impl<'a, 'i> Parser<'a, 'i> {
     }
 
     // ':' and a type's width, or 0.
+    #[inline(always)]
     pub fn type_if_any(&mut self) -> Result<u32, Fault>
         ensures { Runs R.type_if_any self.old result self.new }
     {

@@ -12,6 +12,7 @@ use tables::rows::{code_at, number_at};
 
 impl<'a, 'i> Parser<'a, 'i> {
     // The item's statement that has the name which a token is.
+    #[inline(always)]
     pub fn in_scope(&self, t: Spot) -> Option<u32>
         requires { Ready self.now }
         ensures { result ≡ R.in_scope t (world self.now) }
@@ -44,6 +45,7 @@ impl<'a, 'i> Parser<'a, 'i> {
 
     // A name in scope, by its statement's row.
     #[tactic(auto, using(crate::proofs::Chains::ends), unfolding(rules::specs::Reading::value))]
+    #[inline(always)]
     pub fn value(&mut self) -> Result<u32, Fault>
         requires { Ready self.old }
         ensures { Runs R.value self.old result self.new }

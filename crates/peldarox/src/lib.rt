@@ -76,7 +76,8 @@ pub fn read_right_hand_sides(
     )
 }
 
-// Refusal 1 by the length alone, then 2 over the whole text, then what comes first while reading.
+// Refusal 1 by the length alone, then 2 over the whole text, then what comes first while reading. The lent tables are passed one by one: by value, or two structs deep, no proof
+// carries what a struct of them leaves back to the caller.
 fn read(
     text: &[u8],
     items: &mut [u32],
