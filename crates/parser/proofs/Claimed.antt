@@ -26,7 +26,7 @@ use Rattle.parser.specs.declared.Parser.{Parser}
 use Rattle.parser.specs.declared.fault.Fault.{Fault}
 use Rattle.parser.specs.declared.fault.What.TheVariants as what
 use Rattle.parser.proofs.Chains.{kept}
-use Rattle.parser.specs.Stands.{world, told, Lent, Ready, Keeps, RunsTo, Runs, end_scope}
+use Rattle.parser.specs.Stands.{world, Lent, Ready, Keeps, Runs, end_scope}
 
 module _ (text S S' : List ℕ) (row : Statement) (n : ℕ) (room : n < min 65536 (length S / statement_length)) (e : take ((n + 1) * statement_length) S' ≡ take (n * statement_length) S ++ statement_words row) where
   size : length (take (n * statement_length) S) ≡ n * statement_length

@@ -14,8 +14,7 @@ impl<'a, 'i> Parser<'a, 'i> {
     // The item's statement that has the name which a token is.
     #[inline(always)]
     pub fn in_scope(&self, t: Spot) -> Option<u32>
-        requires { Ready self.now }
-        ensures { result ≡ R.in_scope t (world self.now) }
+        ensures { Ready self.now → result ≡ R.in_scope t (world self.now) }
     {
         let first = self.scope;
         let past = self.counts.statements;

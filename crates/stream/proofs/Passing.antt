@@ -249,6 +249,29 @@ pub folded : (l : List ℕ) (s : Stream) → fold step.stepped s l ≡ step.fed 
 folded [] s = refl
 folded (b ∷ l) s = folded l (step.stepped s b)
 
+-- one byte of a part, and the end of it
+module _ (s : Stream) (l : List ℕ) (i : ℕ) where
+  pub fed_more : i < length l → {t : Stream} → t ≡ step.stepped s (get_or l i 0) → step.fed s (drop i l) ≡ step.fed t (drop (i + 1) l)
+  fed_more h e = rw (e, add-one, drop-cons l i 0 h)
+
+  pub fed-end : length l ≤ i → step.fed s (drop i l) ≡ s
+  fed-end h = rw (drop_of_length-le l h)
+
+-- a state that is ready is between tokens
+pub ready_passes : (s : Stream) (l : List ℕ) (k : Skimmed) {x : Lexing} → Ready s (length l) → Skims l s.lexing.count k → x ≡ step.gapped k.count
+    → step.fed s l ≡ step.fed (standing (s.seen + k.past) x) (drop k.past l)
+ready_passes s l k r p e =
+    let z : s ≡ standing s.seen (step.gapped s.lexing.count) =
+    ap (λ (q : Sequence). record { seen = s.seen; sequence = q; lexing = s.lexing }) r.between ∙ ap (λ (m : Mode). standing s.seen (record { mode = m; count = s.lexing.count })) r.gap in
+    ap (λ (t : Stream). step.fed t l) z ∙ p.onward s.seen r.room ∙ ap (λ (t : Lexing). step.fed (standing (s.seen + k.past) t) (drop k.past l)) (sym e)
+
+-- a leap further on in a part
+pub leap_more : (s : Stream) (l : List ℕ) (i : ℕ) (r : Leap) → i ≤ length l → Leaps s (take (length l - i) (drop i l)) r
+    → (i + r.past ≤ length l) × (step.fed s (drop i l) ≡ step.fed r.state (drop (i + r.past) l))
+leap_more s l i r h p =
+    let t = subst (λ (x : List ℕ). Leaps s x r) (rest l i) p in
+    (omega (arith, t.within, length-drop i l), t.onward ∙ ap (step.fed r.state) (drop-drop r.past i l))
+
 -- past the longest text a part changes nothing
 pub fed_full : (l : List ℕ) (s : Stream) → 65536 < s.seen → step.fed s l ≡ s
 unfolding step.stepped

@@ -3,13 +3,10 @@ use Rattle.rules.specs.Reading as R
 use Rattle.parser.proofs.Chains as chain
 use Rattle.parser.proofs.Parser.value.Goals as goal
 
-pub in_scope-requires : goal.in_scope-requires
-in_scope-requires c = chain.ready_then c.in_ok-t.was c.expect.ensures c.requires
-
 pub returns-in-Some : goal.returns-in-Some
 unfolding R.value R.known
-returns-in-Some c = chain.then _ _ c.in_ok-t.was c.expect.ensures (chain.sees _ _ (sym c.in-Some.is ∙ c.in_scope.ensures) (chain.gives _ _ _ refl))
+returns-in-Some c = chain.then _ _ c.in_ok-t.was c.expect.ensures (chain.sees _ _ (sym c.in-Some.is ∙ (c.in_scope.ensures (chain.ready_then c.in_ok-t.was c.expect.ensures c.requires))) (chain.gives _ _ _ refl))
 
 pub returns-in-None : goal.returns-in-None
 unfolding R.value R.known
-returns-in-None c = chain.then _ _ c.in_ok-t.was c.expect.ensures (chain.sees _ _ (sym c.in-None.is ∙ c.in_scope.ensures) (chain.refuses _ _ _ c.new.ensures.what c.new.ensures.at))
+returns-in-None c = chain.then _ _ c.in_ok-t.was c.expect.ensures (chain.sees _ _ (sym c.in-None.is ∙ (c.in_scope.ensures (chain.ready_then c.in_ok-t.was c.expect.ensures c.requires))) (chain.refuses _ _ _ c.new.ensures.what c.new.ensures.at))

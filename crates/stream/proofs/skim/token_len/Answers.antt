@@ -1,9 +1,7 @@
 -- `token_len` meets its contract: each return by the tests on the first byte that led there.
 -- Assumes nothing.
-use mathlib.Core.Path.{sym, ap, ◌∙◌}
 use native.Mathlib.Omega.{arith}
-use borrow.Author.Tests.{le-leb, lt-leb, eq-eqb, ne_eqb}
-use lib.Dec.{leb}
+use borrow.Author.Tests.{eq-eqb, ne_eqb}
 use Rattle.rules.specs.Bytes.{digit, name_byte}
 use Rattle.laws.proofs.Tests.{said}
 use Rattle.laws.proofs.Runs.{rest-count, rest-fits}
