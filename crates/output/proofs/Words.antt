@@ -5,9 +5,9 @@ use mathlib.Core.List.{List, [], ◌∷◌, ◌++◌, append-nil, append_assoc}
 use Prim.Native.Nat.{ℕ, ◌+◌, ◌-◌, ◌≤◌, ◌<◌, ◌^◌, min}
 use native.Mathlib.Omega.{arith}
 use native.Mathlib.Nat.{add-zero, zero-add}
-use Rattle.std.proofs.lemmas.List.{take-append-drop}
+use Rattle.std.proofs.lemmas.List.{take-append-drop, take_at, take_min}
 use lib.ListN.{length, take, drop, length-append, length-drop, drop_of_length-le}
-use lib.Seq.{take_all, drop-drop, drop-append_seam, take-append_seam, length-take-le}
+use lib.Seq.{take_all, take-take, drop-drop, drop-append_seam, take-append_seam, length-take-le}
 use borrow.Rule.Slice.PartMut.{mid_of, post_of, put_mid, same_len_mid}
 use Rattle.rules.specs.Out.{joined, Wrote}
 use Rattle.output.specs.declared.writer.Writer.{Writer}
@@ -23,14 +23,29 @@ none at x h = drop_of_length-le (drop at x) {i = length x - at} (simp length-dro
 back : (at : ℕ) (x y : List ℕ) → at ≤ length x → put_mid at (length x - at) x y ≡ take at x ++ y
 back at x y h = ap (λ (l : List ℕ). take at x ++ (y ++ l)) (none at x h) ∙ ap (λ (l : List ℕ). take at x ++ l) (append-nil y)
 
+-- what stands before the unwritten rest stays
+front_stays : (n at : ℕ) (o last : List ℕ) → at ≡ min n (length o) → length last ≡ length o - at → take n (take at o ++ last) ≡ take n o
+front_stays n at o last h l =
+    let x = take at o ++ last in
+    let front : length (take at o) ≡ at = length-take-le at o (omega arith) in
+    let long : length x ≡ length o = length-append (take at o) last ∙ omega arith in
+    sym (take_min n x)
+    ∙ ap (λ (k : ℕ). take (min n k) x) long
+    ∙ ap (λ (k : ℕ). take k x) (sym h)
+    ∙ take_at (take at o) last at front
+    ∙ ap (λ (k : ℕ). take k o) h
+    ∙ take_min n o
+
 -- a word was written into the unwritten rest
-pub appended : {s o last : List ℕ} {n at r m : ℕ} → at ≡ min n (length o) → Put s (mid_of at (length o - at) o) last r → m ≡ min (n + r) largest
+pub appended : {s o last : List ℕ} {n at r m : ℕ} → n < 2 ^ 64 → at ≡ min n (length o) → Put s (mid_of at (length o - at) o) last r → m ≡ min (n + r) largest
     → Appended s o n (put_mid at (length o - at) o last) m
-appended {s} {o} {last} {n} {at} {r} {m} h x e =
+appended {s} {o} {last} {n} {at} {r} {m} small h x e =
     let within : at ≤ length o = omega arith in
     let z : mid_of at (length o - at) o ≡ drop at o = lent at o within in
     record {
       count = omega (arith, x.count);
+      grows = omega arith;
+      front = ap (take n) (back at o last within) ∙ front_stays n at o last h (x.long ∙ ap length z ∙ length-drop at o);
       bytes = λ few q.
           let a : at ≡ n = omega arith in
           let y : last ≡ s ++ drop (length s) (drop at o) = x.bytes (omega arith) (rw z (rw length-drop (omega arith))) ∙ ap (λ (l : List ℕ). s ++ drop (length s) l) z in
@@ -49,12 +64,24 @@ put_wrote h w = record { count = omega (arith, w.count); bytes = λ few. w.bytes
 pub appended_as : {s t before after : List ℕ} {n m : ℕ} → t ≡ s → Appended s before n after m → Appended t before n after m
 appended_as {before = b} {after = a} {n = n} {m = m} e p = subst (λ (l : List ℕ). Appended l b n a m) (sym e) p
 
+-- the front of a front
+front_both : (n m : ℕ) (o a b : List ℕ) → n ≤ m → take n a ≡ take n o → take m b ≡ take m a → take n b ≡ take n o
+front_both n m o a b h e d = sym (take-take n m b h) ∙ ap (take n) d ∙ take-take n m a h ∙ e
+
+-- a full output stays
+pub full_stays : {s before after : List ℕ} {n n' : ℕ} → length before ≤ n → Appended s before n after n' → after ≡ before
+full_stays {before = b} {after = a} {n = n} h x =
+    let l : length a ≤ n = omega (arith, x.long) in
+    sym (take_all n a l) ∙ x.front ∙ take_all n b h
+
 -- one word behind the other
 pub appended_both : {s t o a b : List ℕ} {n m k : ℕ} → Appended s o n a m → Appended t a m b k → Appended (s ++ t) o n b k
 appended_both {s} {t} {o} {a} {b} {n} {m} {k} x y =
     let all : length (s ++ t) ≡ length s + length t = length-append s t in
     record {
       count = omega (arith, all, x.count, y.count);
+      grows = omega (arith, x.grows, y.grows);
+      front = front_both n m o a b x.grows x.front y.front;
       bytes = λ few q.
           let c : m ≡ n + length s = omega (arith, all, x.count) in
           let before : a ≡ take n o ++ s ++ drop (n + length s) o = x.bytes (omega (arith, all)) (omega (arith, all)) in
@@ -80,7 +107,7 @@ pub record Puts (whole : List ℕ) (left : List (List ℕ)) (before : List ℕ) 
 
 pub puts_none : {whole : List ℕ} {ps : List (List ℕ)} {o : List ℕ} {n : ℕ} → whole ≡ joined ps → Puts whole ps o n o n
 puts_none {o = o} {n = n} e =
-    record { word = []; all = e; written = record { count = simp add-zero refl; bytes = λ few q. sym (simp (append-nil, add-zero) (take-append-drop n o)); long = refl } }
+    record { word = []; all = e; written = record { count = simp add-zero refl; grows = omega arith; front = refl; bytes = λ few q. sym (simp (append-nil, add-zero) (take-append-drop n o)); long = refl } }
 
 pub puts_more : {whole p o₀ o a : List ℕ} {ps : List (List ℕ)} {n₀ n m : ℕ} → Puts whole (p ∷ ps) o₀ n₀ o n → Appended p o n a m → Puts whole ps o₀ n₀ a m
 puts_more {p = p} {ps = ps} g x = record { word = g.word ++ p; all = g.all ∙ sym (append_assoc g.word p (joined ps)); written = appended_both g.written x }

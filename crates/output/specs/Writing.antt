@@ -13,9 +13,11 @@ pub record Put (s before after : List ℕ) (r : ℕ) : Type 0 where
   pub bytes : length s < largest → length s ≤ length before → after ≡ s ++ drop (length s) before
   pub long : length after ≡ length before
 
--- s was written behind the n bytes that stood there, in an output that has room for both
+-- s was written behind the n bytes that stood there, in an output that has room for both; whether it has or not, those n bytes stay, and so all of a full output
 pub record Appended (s before : List ℕ) (n : ℕ) (after : List ℕ) (n' : ℕ) : Type 0 where
   pub count : min n' largest ≡ min (n + length s) largest
+  pub grows : n ≤ n'
+  pub front : take n after ≡ take n before
   pub bytes : n + length s < largest → n + length s ≤ length before → after ≡ take n before ++ s ++ drop (n + length s) before
   pub long : length after ≡ length before
 
