@@ -5,7 +5,7 @@
 pub mod marks;
 mod stack;
 
-ghost use Rattle.std.specs.Prelude.{◌≡◌, suc, ◌+◌, ◌≤◌, ◌<◌, length, get_or, false};
+ghost use Rattle.std.specs.Prelude.{◌≡◌, List, ℕ, suc, ◌+◌, ◌≤◌, ◌<◌, length, get_or, false};
 ghost use Rattle.listing.specs.References.{Sound};
 ghost use Rattle.listing.specs.Machine.{trace as tracing};
 ghost use Rattle.listing.specs.Work.{has_mark, entry_of, Ready, Begun, Traced, Advanced};
@@ -30,7 +30,7 @@ impl Graph<'_> {
         requires rows_in_bounds { self.now.rows < length work.old }
         requires rows_bound { self.now.rows ≤ 65536 }
         requires root_lt_rows { root < self.now.rows }
-        ensures { Sound self.now.statements.now self.now.operands.now self.now.rows → Ready self.now.statements.now self.now.operands.now self.now.rows work.old 0 → Begun self.now.statements.now self.now.operands.now self.now.rows work.old root work.new result.depth }
+        ensures { (statements : List ℕ) (operands : List ℕ) → Sound statements operands self.now.rows → Ready statements operands self.now.rows work.old 0 → Begun statements operands self.now.rows work.old root work.new result.depth }
     {
         work[self.rows as usize] = 2 * root;
         Walk { depth: 1 }

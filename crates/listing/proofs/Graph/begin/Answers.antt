@@ -4,4 +4,4 @@ use Rattle.listing.proofs.Steps.{begun}
 use Rattle.listing.proofs.Graph.begin.Goals as goal
 
 pub returns : goal.returns
-returns c = λ so rd. begun _ _ _ so _ _ c.requires.root_lt_rows rd
+returns c = λ statements operands so rd. begun statements operands _ so _ _ c.requires.root_lt_rows rd

@@ -7,7 +7,7 @@ pub begin-walk-requires : goal.begin-walk-requires
 begin-walk-requires c = record { rows_in_bounds = begin_room c.requires.prepared; rows_bound = c.requires.prepared.sound.few; root_lt_rows = c.requires.root_lt_rows }
 
 pub loop-row-init : goal.loop-row-init
-loop-row-init c = walking_start _ _ c.requires.prepared _ (c.begin-walk.ensures c.requires.prepared.sound c.requires.prepared.ready) _
+loop-row-init c = walking_start _ _ c.requires.prepared _ (c.begin-walk.ensures _ _ c.requires.prepared.sound c.requires.prepared.ready) _
 
 pub advance-requires : goal.advance-requires
 advance-requires c = record { sound = c.requires.prepared.sound; ready = c.loop-row.invariant.ready }
@@ -28,4 +28,4 @@ loop-row-preserved c =
     walking_more c.loop-row.invariant h c.advance.auto.work c.put_line.ensures
 
 pub returns : goal.returns
-returns c = walking_done _ _ c.requires.prepared _ (c.begin-walk.ensures c.requires.prepared.sound c.requires.prepared.ready) c.loop-row.invariant (ended _ c.in_default.is c.advance.ensures)
+returns c = walking_done _ _ c.requires.prepared _ (c.begin-walk.ensures _ _ c.requires.prepared.sound c.requires.prepared.ready) c.loop-row.invariant (ended _ c.in_default.is c.advance.ensures)
