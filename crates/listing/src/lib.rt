@@ -5,7 +5,7 @@
 pub mod marks;
 mod stack;
 
-ghost use Rattle.std.specs.Prelude.{◌≡◌, List, ℕ, suc, ◌+◌, ◌≤◌, ◌<◌, length, get_or, false};
+ghost use Rattle.std.specs.Prelude.{◌≡◌, List, ℕ, suc, ◌+◌, ◌≤◌, ◌<◌, length, get_or, false, None};
 ghost use Rattle.listing.specs.References.{Sound};
 ghost use Rattle.listing.specs.Machine.{trace as tracing};
 ghost use Rattle.listing.specs.Work.{has_mark, entry_of, Ready, Begun, Traced, Advanced};
@@ -51,11 +51,12 @@ impl Graph<'_> {
         stack::push_references(self.statements, self.operands, work, base, depth + 1, row)
     }
 
-    // The next row of a walk, and none at its end.
+    // The next row of a walk, and none at its end, where the walk stays as it was.
     pub fn advance(&self, work: &mut [u32], walk: &mut Walk) -> Option<u32>
         requires sound { Sound self.now.statements.now self.now.operands.now self.now.rows }
         requires ready { Ready self.now.statements.now self.now.operands.now self.now.rows work.old walk.old.depth }
-        ensures { Advanced self.now.statements.now self.now.operands.now self.now.rows work.old walk.old.depth work.new result walk.new.depth }
+        ensures advanced { Advanced self.now.statements.now self.now.operands.now self.now.rows work.old walk.old.depth work.new result walk.new.depth }
+        ensures stays_at_end { result ≡ None → walk.new ≡ walk.old }
     {
         let base = self.rows as usize;
         let mut depth = walk.depth;

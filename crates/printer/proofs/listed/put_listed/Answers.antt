@@ -14,18 +14,18 @@ advance-requires c = record { sound = c.requires.prepared.sound; ready = c.loop-
 
 pub put_line-requires : goal.put_line-requires
 put_line-requires c =
-    let h = listed c.in-Some.is c.advance.ensures in
+    let h = listed c.in-Some.is c.advance.ensures.advanced in
     (c.requires.prepared.operands _ h.counted).first
 
 pub loop-row-smaller : goal.loop-row-smaller
 loop-row-smaller c =
-    let h = listed c.in-Some.is c.advance.ensures in
+    let h = listed c.in-Some.is c.advance.ensures.advanced in
     walking_less c.loop-row.invariant h
 
 pub loop-row-preserved : goal.loop-row-preserved
 loop-row-preserved c =
-    let h = listed c.in-Some.is c.advance.ensures in
+    let h = listed c.in-Some.is c.advance.ensures.advanced in
     walking_more c.loop-row.invariant h c.advance.auto.work c.put_line.ensures
 
 pub returns : goal.returns
-returns c = walking_done _ _ c.requires.prepared _ (c.begin-walk.ensures _ _ c.requires.prepared.sound c.requires.prepared.ready) c.loop-row.invariant (ended _ c.in_default.is c.advance.ensures)
+returns c = walking_done _ _ c.requires.prepared _ (c.begin-walk.ensures _ _ c.requires.prepared.sound c.requires.prepared.ready) c.loop-row.invariant (ended _ c.in_default.is c.advance.ensures.advanced)
