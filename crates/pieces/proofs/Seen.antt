@@ -26,9 +26,13 @@ module _ (text S O : List ℕ) (i : ℕ) {r : Operand} (e : r ≡ operand_at O i
 
 -- an attribute's row
 module _ (text A : List ℕ) (i : ℕ) {r : Attribute} (e : r ≡ attribute_at A i) where
-  pub known-bits-seen : r.code ≡ known_bits_code → attribute (attribute_of text A i) [] ≡ bytes "knownBits=" ++ letters_of text r.pattern
+  pub known-bits-seen : r.code ≡ known_bits_code → attribute_of text A i ≡ syntax.known_bits (letters_of text r.pattern)
   unfolding attribute_of as_attribute
-  known-bits-seen h = rw (← e, h, append-nil) refl
+  known-bits-seen h = rw (← e, h)
+
+  pub known-bits-written : r.code ≡ known_bits_code → attribute (attribute_of text A i) [] ≡ bytes "knownBits=" ++ letters_of text r.pattern
+  unfolding attribute_of as_attribute
+  known-bits-written h = rw (← e, h, append-nil) refl
 
   pub power_of_two_seen : r.code ≡ attribute_code keyword.power_of_two → attribute_of text A i ≡ syntax.power_of_two
   unfolding attribute_of as_attribute
@@ -60,9 +64,13 @@ module _ (text A : List ℕ) (i : ℕ) {r : Attribute} (e : r ≡ attribute_at A
   unfolding attribute_of as_attribute
   range-seen g h j k l m n = rw (← e, ne_eqb _ _ g, ne_eqb _ _ h, ne_eqb _ _ j, ne_eqb _ _ k, ne_eqb _ _ l, ne_eqb _ _ m, ne_eqb _ _ n)
 
-  pub demanded_bits_seen : r.code ≡ demanded_bits_code → root_attribute (root_attribute_of text A i) [] ≡ bytes "demandedBits=" ++ letters_of text r.pattern
+  pub demanded_bits_seen : r.code ≡ demanded_bits_code → root_attribute_of text A i ≡ syntax.demanded_bits (letters_of text r.pattern)
   unfolding root_attribute_of as_root_attribute
-  demanded_bits_seen h = rw (← e, h, append-nil) refl
+  demanded_bits_seen h = rw (← e, h)
+
+  pub demanded_bits_written : r.code ≡ demanded_bits_code → root_attribute (root_attribute_of text A i) [] ≡ bytes "demandedBits=" ++ letters_of text r.pattern
+  unfolding root_attribute_of as_root_attribute
+  demanded_bits_written h = rw (← e, h, append-nil) refl
 
   pub harvested_seen : (r.code ≡ demanded_bits_code → ⊥) → root_attribute_of text A i ≡ syntax.harvested_from_use
   unfolding root_attribute_of as_root_attribute

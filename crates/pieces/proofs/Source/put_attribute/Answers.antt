@@ -6,11 +6,11 @@ use mathlib.Core.List.{[]}
 use Rattle.rules.specs.Syntax.{Attribute}
 use Rattle.rules.specs.Printing.{attribute}
 use Rattle.output.proofs.Words.{writes_as}
-use Rattle.pieces.proofs.Seen.{known-bits-seen, power_of_two_seen, negative-seen, non_negative_seen, non_zero_seen, has_external_uses_seen, sign_bits_seen, range-seen}
+use Rattle.pieces.proofs.Seen.{known-bits-written, power_of_two_seen, negative-seen, non_negative_seen, non_zero_seen, has_external_uses_seen, sign_bits_seen, range-seen}
 use Rattle.pieces.proofs.Source.put_attribute.Goals as goal
 
 pub returns-in-1 : goal.returns-in-1
-returns-in-1 c = writes_as (known-bits-seen _ _ _ c.attribute_at-row.ensures c.in-1.is) c.put_pattern.ensures
+returns-in-1 c = writes_as (known-bits-written _ _ _ c.attribute_at-row.ensures c.in-1.is) c.put_pattern.ensures
 
 pub returns-in-2 : goal.returns-in-2
 returns-in-2 c = writes_as (ap (λ (a : Attribute). attribute a []) (power_of_two_seen _ _ _ c.attribute_at-row.ensures c.in-2.is)) c.put.ensures
