@@ -13,6 +13,10 @@ use Rattle.rules.specs.Out.{joined, Wrote}
 use Rattle.output.specs.declared.writer.Writer.{Writer}
 use Rattle.output.specs.Writing.{largest, Put, Appended, Writes}
 
+-- where the unwritten rest of an output starts
+pub least_within : {at k : ℕ} (n : ℕ) → at ≡ min n k → at ≤ k
+least_within n e = omega arith
+
 -- the rest of a list, lent and back
 lent : (at : ℕ) (x : List ℕ) → at ≤ length x → mid_of at (length x - at) x ≡ drop at x
 lent at x h = take_all (length x - at) (drop at x) (simp length-drop (omega arith))
@@ -40,7 +44,7 @@ front_stays n at o last h l =
 pub appended : {s o last : List ℕ} {n at r m : ℕ} → n < 2 ^ 64 → at ≡ min n (length o) → Put s (mid_of at (length o - at) o) last r → m ≡ min (n + r) largest
     → Appended s o n (put_mid at (length o - at) o last) m
 appended {s} {o} {last} {n} {at} {r} {m} small h x e =
-    let within : at ≤ length o = omega arith in
+    let within : at ≤ length o = least_within n h in
     let z : mid_of at (length o - at) o ≡ drop at o = lent at o within in
     record {
       count = omega (arith, x.count);

@@ -3,6 +3,7 @@
 use mathlib.Core.Path.{◌≡◌, refl, ap, ◌∙◌}
 use mathlib.Core.List.{List, [], ◌∷◌, ◌++◌, append-nil}
 use Prim.Native.Nat.{ℕ, zero, suc, ◌+◌, ◌-◌, ◌≤◌, ◌<◌}
+use native.Mathlib.Omega.{arith}
 use borrow.Author.Tests.{ne_eqb}
 use lib.Dec.{eqb}
 use Rattle.laws.proofs.Pieces.{next, stop}
@@ -15,11 +16,12 @@ use Rattle.rules.specs.Rows.{◌up_to◌}
 use Rattle.rules.specs.Syntax as syntax
 use Rattle.rules.specs.View.{each, along, typing_of}
 use Rattle.rules.specs.Printing.{typing, operand, further, operands, attribute, root_attribute, attributes}
+use Rattle.pieces.specs.Bounds.{Few}
 use Rattle.proof_tails.proofs.Tails.{operand-tail, further_tail, attribute-tail, root_attribute_tail, attributes-tail}
 
 -- Rows of a span, where a list is printed as its elements are, one after the other
 module _ {A : Type 0} (print : List A → List ℕ) (none : print [] ≡ []) (split : (a : A) (l : List A) → print (a ∷ l) ≡ print (a ∷ []) ++ print l) where
-  each-joined : (f : ℕ → A) (i n : ℕ) → print (each f i n) ≡ joined (each (λ j. print (f j ∷ [])) i n)
+  pub each-joined : (f : ℕ → A) (i n : ℕ) → print (each f i n) ≡ joined (each (λ j. print (f j ∷ [])) i n)
   each-joined f i zero = none
   each-joined f i (suc n) = split (f i) (each f (i + 1) n) ∙ ap (λ (l : List ℕ). print (f i ∷ []) ++ l) (each-joined f (i + 1) n)
 
@@ -43,6 +45,10 @@ attributes-joined f s = enclosed_each attribute attribute-tail f s.first (s.past
 
 pub root_attributes_joined : (f : ℕ → syntax.RootAttribute) (s : Span) → attributes root_attribute (along f s) [] ≡ joined (along (λ j. bytes " (" ++ root_attribute (f j) [] ++ bytes ")") s)
 root_attributes_joined f s = enclosed_each root_attribute root_attribute_tail f s.first (s.past - s.first)
+
+-- a span without its first row
+pub few-rest : (s : Span) → Few s → s.first < s.past → Few ((s.first + 1) up_to s.past)
+few-rest s w h = record { first = omega (arith, w.past); past = w.past }
 
 -- no type, and a type
 pub typing_none : (w : ℕ) → w ≡ 0 → typing (typing_of w) [] ≡ []
