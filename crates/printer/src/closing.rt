@@ -1,5 +1,6 @@
 // The closing lines of an item, by its kind.
-ghost use Rattle.std.specs.Prelude.{[], ◌≤◌};
+ghost use Rattle.std.specs.Prelude.{List, [], ℕ, ◌≤◌};
+ghost use Rattle.rules.specs.View.{as_closing};
 ghost use Rattle.rules.specs.Printing.{first_closing, second_closing};
 ghost use Rattle.output.specs.Writing.{Writes};
 ghost use Rattle.printer.specs.Contract.{closing_in};
@@ -24,7 +25,7 @@ pub fn put_first_closing(source: &Source, item: Item, writer: &mut Writer)
 
 // Writes the `result` behind an item's `infer`; nothing where the item has no second closing line.
 pub fn put_second_closing(source: &Source, item: Item, writer: &mut Writer)
-    ensures { Writes (second_closing (closing_in source.now item) []) writer.old writer.new }
+    ensures { (attributes : List ℕ) → Writes (second_closing (as_closing source.now.text.now source.now.statements.now source.now.operands.now attributes item) []) writer.old writer.new }
 {
     if item.kind == code::INFER_RESULT {
         put_result(source, item.operands.first, writer);

@@ -18,5 +18,5 @@ clear_rows-requires c = record { first_le_past = c.requires.own.span; past_in_bo
 
 pub returns : goal.returns
 returns c =
-    item_printed _ _ c.args.item c.requires.prepared c.requires.own c.requires.unmarked c.put_before.ensures c.put_first_closing.ensures c.put_between.ensures c.put_second_closing.ensures
+    item_printed _ _ c.args.item c.requires.prepared c.requires.own c.requires.unmarked c.put_before.ensures c.put_first_closing.ensures c.put_between.ensures (c.put_second_closing.ensures c.args.source.now.attributes.now)
     c.clear_rows.ensures (c.clear_rows.auto.work ∙ c.put_between.auto.work ∙ c.put_before.auto.work)

@@ -9,7 +9,7 @@ use Rattle.printer.proofs.ByKind.{replacement-closing, no_second_closing}
 use Rattle.printer.proofs.closing.put_second_closing.Goals as goal
 
 pub returns-then-item-eq-INFER_RESULT : goal.returns-then-item-eq-INFER_RESULT
-returns-then-item-eq-INFER_RESULT c = writes_as (ap (λ (l : Closing). second_closing l []) (replacement-closing _ _ _ _ c.args.item c.if-item-eq-INFER_RESULT.true)) c.put_result.ensures
+returns-then-item-eq-INFER_RESULT c = λ A. writes_as (ap (λ (l : Closing). second_closing l []) (replacement-closing _ _ _ A c.args.item c.if-item-eq-INFER_RESULT.true)) c.put_result.ensures
 
 pub returns-else-item-eq-INFER_RESULT : goal.returns-else-item-eq-INFER_RESULT
-returns-else-item-eq-INFER_RESULT c = writes_as (no_second_closing _ _ _ _ c.args.item c.if-item-eq-INFER_RESULT.false) (writes_none _)
+returns-else-item-eq-INFER_RESULT c = λ A. writes_as (no_second_closing _ _ _ A c.args.item c.if-item-eq-INFER_RESULT.false) (writes_none _)
