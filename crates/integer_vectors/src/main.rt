@@ -67,7 +67,7 @@ fn order(w: Wide, before: Option<Wide>) -> &'static str {
     match before {
         None => "first",
         Some(v) if w.less(v) => "less",
-        Some(v) if w == v => "same",
+        Some(v) if w.same(v) => "same",
         Some(_) => "more",
     }
 }

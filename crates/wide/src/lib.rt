@@ -5,7 +5,7 @@
 mod reading;
 mod writing;
 
-ghost use Rattle.std.specs.Prelude.{◌≡◌, ◌+◌, ◌-◌, ◌^◌, ltb};
+ghost use Rattle.std.specs.Prelude.{◌≡◌, ◌+◌, ◌-◌, ◌^◌, eqb, ltb};
 ghost use Rattle.rules.specs.Integers.{number, below, opposite, negative, order};
 ghost use Rattle.rules.specs.Rows.{words_of, bits_of};
 ghost use Rattle.wide.specs.Wide.{bits, as_field};
@@ -48,6 +48,13 @@ impl Wide {
         ensures { bits result ≡ 2 ^ 127 - 1 }
     {
         Wide::MAX
+    }
+
+    // Whether the two are one integer.
+    pub fn same(self, w: Wide) -> bool
+        ensures { result ≡ eqb (bits self) (bits w) }
+    {
+        self == w
     }
 
     // Whether the integer is below 0.
