@@ -6,6 +6,7 @@ pub mod Digits
 pub mod LastDigit
 pub mod Unsigned
 pub mod Signed
+pub mod FirstByte
 pub mod Decimals
 pub mod Short
 pub mod ReadsBack

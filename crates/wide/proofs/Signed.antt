@@ -32,7 +32,7 @@ and_yes true = refl
 and_yes false = refl
 
 -- the first byte, as the code compares it
-begins : (s : List ℕ) (b : ℕ) → 0 < b → pointwise nat_eq (take 1 s) (b ∷ []) ≡ eqb (get_or s 0 0) b
+pub begins : (s : List ℕ) (b : ℕ) → 0 < b → pointwise nat_eq (take 1 s) (b ∷ []) ≡ eqb (get_or s 0 0) b
 begins [] b h = sym (ne_eqb 0 b (λ e. omega arith))
 begins (x ∷ s) b h = and_yes (eqb x b)
 
