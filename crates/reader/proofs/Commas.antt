@@ -2,8 +2,10 @@
 -- Assumes nothing.
 use Rattle.std.proofs.Common.{ℕ, suc, ◌+◌, ◌-◌, ◌<◌, ◌≤◌, arith, ◌≡◌, refl, ◌∙◌, Bool, true, false, Result, Ok, Err, ap}
 use borrow.Author.Tests.{lt-ltb}
+use Rattle.rules.specs.Tokens as kind
 use Rattle.rules.specs.Reading as R
 use Rattle.rules.specs.World.{World, Res, go, stop, P, bind, ◌>>=◌, give}
+use Rattle.reading.proofs.Steady.{Steady, given, after, expect_steady}
 use Rattle.parser.specs.declared.Parser.{Parser}
 use Rattle.parser.specs.declared.fault.Fault.{Fault}
 use Rattle.parser.specs.Stands.{Runs, world, Ready}
@@ -44,6 +46,12 @@ all_between n p q b x = x
 pub one_operand : (p q : Parser) (b : Result (Unit {0}) Fault) → Runs (operands_behind false 1) p b q → Runs R.operand p b q
 unfolding operands_behind R.operands R.further_operands
 one_operand p q b x = record { tells = x.tells ∙ bind-give (R.operand (world p)); keeps = x.keeps; ready = x.ready }
+
+-- a comma, where one is wanted, leaves the scope and the statements as they are
+pub comma_steady : (comma : Bool) → Steady (comma_if comma)
+unfolding comma_if
+comma_steady true = after (expect_steady kind.comma) (λ t. given tt)
+comma_steady false = given tt
 
 -- behind some operands of n: what is left to read is what the rule reads, and an index that held rows of the item still does
 pub record Behind (comma : Bool) (n : ℕ) (p : Parser) (behind : Bool) (left : ℕ) (q : Parser) : Type 0 where

@@ -6,6 +6,8 @@ pub mod Parts
 pub mod Does
 pub mod Claims
 pub mod Many
+-- Rules that leave the scope and the statements as they are.
+pub mod Steady
 -- What holds of the parts of the grammar holds of every rule; and four things that do.
 pub mod Rules
 pub mod Fuel
