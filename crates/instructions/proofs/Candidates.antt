@@ -9,14 +9,14 @@ use native.Mathlib.Nat.{zero-add, add-zero, suc-add, add-suc}
 use lib.Dec.{eqb, ltb}
 use lib.ListN.{length}
 use borrow.Author.Tests.{eq-eqb, eqb-true, ltb-true}
-use Rattle.std.specs.Prelude.{Option, Some, None}
+use Rattle.std.specs.Prelude.{Option, Some, None, unwrap_or}
 use Rattle.rules.specs.declared.keyword.Keyword.{Keyword}
 use Rattle.rules.specs.Bytes.{same}
 use Rattle.rules.specs.Instructions.{place_of, instruction_of, keyword_of}
 use Rattle.rules.specs.Keywords.{keyword_number}
 use Rattle.laws.proofs.Tests.{and_left, and_right}
 use Rattle.laws.proofs.Places.{same_eq}
-use Rattle.instructions.specs.Candidates.{Candidate, among, those, letter, all_instructions, all_keywords, keywords_of}
+use Rattle.instructions.specs.Candidates.{Candidate, placed, among, those, letter, all_instructions, all_keywords, keywords_of}
 
 module _ {T : Type 0} where
   -- among those that have what the word has where f looks, a word means the same
@@ -30,11 +30,29 @@ module _ {T : Type 0} where
       step false false alike is rest = rest
       step false true alike is rest = absurd (false≢true (sym alike ∙ eq-eqb _ _ (ap f (sym (same_eq w c.word is)) ∙ e)))
 
-  pub by_length : (w : List ℕ) (l : List (Candidate T)) (n : ℕ) → length w ≡ n → among w (those length n l) ≡ among w l
-  by_length w l n e = among-those length w l n e
+  pub among_length : (w : List ℕ) (l : List (Candidate T)) (n : ℕ) → length w ≡ n → among w (those length n l) ≡ among w l
+  among_length w l n e = among-those length w l n e
 
   pub by_letter : (i : ℕ) (w : List ℕ) (l : List (Candidate T)) (b : ℕ) → letter i w ≡ b → among w (those (letter i) b l) ≡ among w l
   by_letter i = among-those (letter i)
+
+-- a word's place in a list is its place among the list's words, all of them candidates
+placed-place : (w : List ℕ) (l : List (List ℕ)) (k : ℕ) → k + place_of w l ≡ unwrap_or (among w (placed k l)) (k + length l)
+placed-place w [] k = refl
+placed-place w (x ∷ l) k = step (same w x) (placed-place w l (suc k))
+  where
+    step : (t : Bool) → suc k + place_of w l ≡ unwrap_or (among w (placed (suc k) l)) (suc k + length l)
+        → k + cond t 0 (suc (place_of w l)) ≡ unwrap_or (cond t (Some k) (among w (placed (suc k) l))) (k + suc (length l))
+    step true rest = add-zero k
+    step false rest = simp add-suc (simp suc-add at rest)
+
+module _ (w : List ℕ) (l : List (List ℕ)) where
+  pub all_placed : unwrap_or (among w (placed 0 l)) (length l) ≡ place_of w l
+  all_placed = sym (simp zero-add at (placed-place w l 0))
+
+  -- the place of a word of n letters is its place among the list's words of n letters
+  pub by_length : (n : ℕ) → length w ≡ n → unwrap_or (among w (those length n (placed 0 l))) (length l) ≡ place_of w l
+  by_length n e = ap (λ (o : Option ℕ). unwrap_or o (length l)) (among_length w (placed 0 l) n e) ∙ all_placed
 
 -- whether a number is one of some
 abbrev pub has : List ℕ → ℕ → Bool
@@ -81,7 +99,7 @@ keywords_numbered w = number-among keyword_number w all_keywords 0 refl ∙ zero
 
 -- a keyword that is found among those of the word's length
 pub keyword_found : (w : List ℕ) {n : ℕ} {r : Option Keyword} → length w ≡ n → r ≡ among w (keywords_of n) → keyword_number r ≡ keyword_of w
-keyword_found w {n} e h = ap keyword_number (h ∙ by_length w all_keywords n e) ∙ keywords_numbered w
+keyword_found w {n} e h = ap keyword_number (h ∙ among_length w all_keywords n e) ∙ keywords_numbered w
 
 -- a number, where there is one, is below a bound
 abbrev Below : ℕ → Option ℕ → Type 0
