@@ -2,13 +2,14 @@
 -- Assumes nothing.
 use Prim.Native.Nat.{ℕ, zero, suc, ◌+◌, ◌-◌, ◌≤◌, ◌<◌, max}
 use native.Mathlib.Nat.{zero-add, suc-add, le_of_suc-le-suc, not-suc-le-zero}
+use native.Mathlib.Numerals.{add-one}
 use native.Mathlib.Omega.{arith}
 use mathlib.Core.Path.{◌≡◌, refl, sym, ap, ◌∙◌}
 use mathlib.Core.Bool.{Bool, true, false, ◌&&◌}
 use mathlib.Core.List.{List, [], ◌∷◌}
 use lib.Dec.{leb}
-use lib.ListN.{length, get_or, drop, take, length-drop}
-use lib.Seq.{drop-drop}
+use lib.ListN.{length, get_or, drop, take, drop_of_length-le, length-drop}
+use lib.Seq.{drop-cons, drop-drop}
 use borrow.Author.Tests.{leb-true, leb-false, le-leb, lt-leb}
 use Rattle.std.specs.List.{fold}
 use Rattle.rules.specs.Bytes.{count}
@@ -33,6 +34,14 @@ and_yes false = refl
 and_join : (t u v : Bool) → (t && (u && v)) ≡ ((t && u) && v)
 and_join true u v = refl
 and_join false u v = refl
+
+-- the greatest byte so far and the rest from i on tell whether all is ASCII
+pub all_more : (s : List ℕ) (i m : ℕ) → i < length s → (leb m 0x7F && all_ascii (drop i s)) ≡ (leb (max m (get_or s i 0)) 0x7F && all_ascii (drop (i + 1) s))
+unfolding ascii
+all_more s i m h = rw (add-one, drop-cons s i 0 h, leb-max m (get_or s i 0) 0x7F) (and_join (leb m 0x7F) (leb (get_or s i 0) 0x7F) (all_ascii (drop (suc i) s)))
+
+pub all_end : (s : List ℕ) (i m : ℕ) → length s ≤ i → (leb m 0x7F && all_ascii (drop i s)) ≡ leb m 0x7F
+all_end s i m h = rw (drop_of_length-le s h) (and_yes (leb m 0x7F))
 
 -- the greatest byte of all tells whether all is ASCII
 pub all_greatest : (m : ℕ) (s : List ℕ) → leb (fold max m s) 0x7F ≡ (leb m 0x7F && all_ascii s)
