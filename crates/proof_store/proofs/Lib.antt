@@ -7,5 +7,6 @@ pub mod Written
 pub mod Stores
 pub mod Back
 pub mod Promises
+pub mod Results
 pub mod Reports
 pub mod Examples
