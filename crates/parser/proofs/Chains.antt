@@ -32,6 +32,7 @@ kept p =
       statements = lent p.statements;
       operands = lent p.operands;
       attributes = lent p.attributes;
+      index = lent p.index;
     }
 
 pub both_kept : {p q s : Parser} → Keeps p q → Keeps q s → Keeps p s
@@ -42,6 +43,7 @@ both_kept a b =
       statements = lent-twice a.statements b.statements;
       operands = lent-twice a.operands b.operands;
       attributes = lent-twice a.attributes b.attributes;
+      index = lent-twice a.index b.index;
     }
 
 -- a call that goes on, and what the rule does with its value
@@ -97,7 +99,7 @@ module _ {A B : Type 0} {value : A → B} {rule : P B} {r : Result A Fault} wher
 
   -- the parser stands elsewhere
   pub moves : (p : Parser) (s : Stand) → told value r (record { text = p.text; stand = s; scope = p.scope; counts = p.counts; items = p.items; statements = p.statements; operands = p.operands; attributes = p.attributes; index = p.index }) ≡ rule (world p) → RunsTo value rule p r (record { text = p.text; stand = s; scope = p.scope; counts = p.counts; items = p.items; statements = p.statements; operands = p.operands; attributes = p.attributes; index = p.index })
-  moves p s e = record { tells = e; keeps = let k = kept p in record { text = refl; items = k.items; statements = k.statements; operands = k.operands; attributes = k.attributes }; ready = λ h. same r _ (record { holds = h.holds }) }
+  moves p s e = record { tells = e; keeps = let k = kept p in record { text = refl; items = k.items; statements = k.statements; operands = k.operands; attributes = k.attributes; index = k.index }; ready = λ h. same r _ (record { holds = h.holds }) }
 
 -- a value that is given, and a fault
 pub gives : {A B : Type 0} (value : A → B) {b : B} (p : Parser) (a : A) → value a ≡ b → RunsTo value (give b) p (Ok a) p

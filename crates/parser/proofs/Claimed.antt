@@ -58,7 +58,7 @@ module _ (p : Parser) (t : MutBor (List ℕ)) (v : Lent p.items t) (row : Item) 
   after_item n = record { text = p.text; stand = p.stand; scope = p.scope; counts = record { items = n; statements = p.counts.statements; operands = p.counts.operands; attributes = p.counts.attributes }; items = t; statements = p.statements; operands = p.operands; attributes = p.attributes; index = p.index }
 
   keeps_item : (n : ℕ) → Keeps p (after_item n)
-  keeps_item n = let k = kept p in record { text = refl; items = v; statements = k.statements; operands = k.operands; attributes = k.attributes }
+  keeps_item n = let k = kept p in record { text = refl; items = v; statements = k.statements; operands = k.operands; attributes = k.attributes; index = k.index }
 
   there_item : r ≡ true → W.claim_item row (world p) ≡ go tt (world (after_item (p.counts.items + 1)))
   unfolding W.claim_item world item_words
@@ -80,7 +80,7 @@ module _ (p : Parser) (t : MutBor (List ℕ)) (v : Lent p.statements t) (row : S
   after_statement n = record { text = p.text; stand = p.stand; scope = p.scope; counts = record { items = p.counts.items; statements = n; operands = p.counts.operands; attributes = p.counts.attributes }; items = p.items; statements = t; operands = p.operands; attributes = p.attributes; index = p.index }
 
   keeps_statement : (n : ℕ) → Keeps p (after_statement n)
-  keeps_statement n = let k = kept p in record { text = refl; items = k.items; statements = v; operands = k.operands; attributes = k.attributes }
+  keeps_statement n = let k = kept p in record { text = refl; items = k.items; statements = v; operands = k.operands; attributes = k.attributes; index = k.index }
 
   -- a statement's row is none of those held
   more_ready : r ≡ true → Ready p → Ready (after_statement (p.counts.statements + 1))
@@ -119,7 +119,7 @@ module _ (p : Parser) (t : MutBor (List ℕ)) (v : Lent p.operands t) (row : Ope
   after_operand n = record { text = p.text; stand = p.stand; scope = p.scope; counts = record { items = p.counts.items; statements = p.counts.statements; operands = n; attributes = p.counts.attributes }; items = p.items; statements = p.statements; operands = t; attributes = p.attributes; index = p.index }
 
   keeps_operand : (n : ℕ) → Keeps p (after_operand n)
-  keeps_operand n = let k = kept p in record { text = refl; items = k.items; statements = k.statements; operands = v; attributes = k.attributes }
+  keeps_operand n = let k = kept p in record { text = refl; items = k.items; statements = k.statements; operands = v; attributes = k.attributes; index = k.index }
 
   there_operand : r ≡ true → W.claim_operand row (world p) ≡ go tt (world (after_operand (p.counts.operands + 1)))
   unfolding W.claim_operand world operand_words
@@ -141,7 +141,7 @@ module _ (p : Parser) (t : MutBor (List ℕ)) (v : Lent p.attributes t) (row : A
   after_attribute n = record { text = p.text; stand = p.stand; scope = p.scope; counts = record { items = p.counts.items; statements = p.counts.statements; operands = p.counts.operands; attributes = n }; items = p.items; statements = p.statements; operands = p.operands; attributes = t; index = p.index }
 
   keeps_attribute : (n : ℕ) → Keeps p (after_attribute n)
-  keeps_attribute n = let k = kept p in record { text = refl; items = k.items; statements = k.statements; operands = k.operands; attributes = v }
+  keeps_attribute n = let k = kept p in record { text = refl; items = k.items; statements = k.statements; operands = k.operands; attributes = v; index = k.index }
 
   there_attribute : r ≡ true → W.claim_attribute row (world p) ≡ go tt (world (after_attribute (p.counts.attributes + 1)))
   unfolding W.claim_attribute world attribute_words
@@ -165,7 +165,7 @@ module _ (p : Parser) where
       let k = kept p in
       record {
         tells = refl;
-        keeps = record { text = refl; items = k.items; statements = k.statements; operands = k.operands; attributes = k.attributes };
+        keeps = record { text = refl; items = k.items; statements = k.statements; operands = k.operands; attributes = k.attributes; index = k.index };
         ready =
             λ h.
             let d = h.holds in

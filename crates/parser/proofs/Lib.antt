@@ -1,5 +1,6 @@
 -- What the proofs share.
 pub mod Chains
+pub mod Leaves
 pub mod Steps
 pub mod Nexts
 pub mod Scope

@@ -13,7 +13,8 @@ use Rattle.rules.specs.Rows.{statement_length, statement_at, name_at, keyword_co
 use Rattle.rules.specs.Keywords as keyword
 use Rattle.rules.specs.Faults as fault
 use Rattle.rules.specs.Reading.{letters, find_row, in_scope, block_at}
-use Rattle.rules.specs.World.{go, stop}
+use Rattle.rules.specs.World.{World, go, stop}
+use Rattle.tables.specs.Stands.{table}
 use Rattle.laws.proofs.Same.{by_cond}
 use Rattle.tables.proofs.Fields.{name-counted, statement-counted}
 use Rattle.parser.specs.declared.Parser.{Parser}
@@ -35,15 +36,12 @@ module _ (text words name : List ℕ) (first n : ℕ) where
       (λ _. found_within k r (omega arith))
       e
 
-module _ (p : Parser) where
-  -- a search through the item's rows that are counted
-  pub searched : (t : Spot) {name : List ℕ} {r : Option ℕ} → r ≡ find_row p.text.bytes.now p.statements.now name p.scope (p.counts.statements - p.scope) → name ≡ letters p.text.bytes.now t → r ≡ in_scope t (world p)
-  unfolding in_scope world
-  searched t e l =
-      let text = p.text.bytes.now in
-      let n = p.counts.statements in
-      rw (e, l) (sym (search_counted text p.statements.now (letters text t) p.scope n (n - p.scope) (omega arith)))
+-- a search through the rows of a scope that are counted
+pub searched : (w : World) (text words : List ℕ) (first past : ℕ) (t : Spot) {name : List ℕ} {r : Option ℕ} → w.text ≡ text → w.scope ≡ first → w.tables.statements ≡ table statement_length past words → r ≡ find_row text words name first (past - first) → name ≡ letters text t → r ≡ in_scope t w
+unfolding in_scope
+searched w text words first past t i j k e l = rw (i, j, k, e, l) (sym (search_counted text words (letters text t) first past (past - first) (omega arith)))
 
+module _ (p : Parser) where
   -- a row that is found in scope is counted, so its code is that of the lent table's row
   module _ (t : Spot) {r code : ℕ} {row : Option ℕ} (e : row ≡ in_scope t (world p)) (l : row ≡ Some r) (k : code ≡ (statement_at p.statements.now r).code) where
     scope_code : (statement_at (world p).tables.statements.words r).code ≡ code

@@ -7,6 +7,7 @@ use Rattle.parser.specs.declared.Parser.{Parser}
 use Rattle.parser.specs.declared.fault.Fault.{Fault}
 use Rattle.parser.specs.Stands.{RunsTo, Ready, world, number_of}
 use Rattle.parser.proofs.Chains.{kept, both_kept}
+use Rattle.parser.proofs.Leaves.{leaves}
 
 module _ {A B C D : Type 0} (v : A → B) (u : C → D) (m : P B) (f : B → P D) (p q : Parser) where
   -- a rule that went on, and the one behind it
@@ -44,4 +45,4 @@ module _ {C D : Type 0} (u : C → D) (p : Parser) where
   pub refuses : (e : Fault) (k : ℕ) (t : Spot) → number_of e.what ≡ k → e.at ≡ t → RunsTo {A = C} u (refuse k t) p (Err e) p
   refuses e k t i j = rw (← i, ← j) (record { tells = refl; keeps = kept p; ready = λ h. tt })
 
-pub ruleset steps = (then, stops, seen, still, yes, no, gives, refuses)
+pub ruleset steps = (then, stops, seen, still, yes, no, gives, refuses, leaves)

@@ -1,6 +1,6 @@
 -- What a parser stands for in the definition of reading, and what a rule's code does with it.
 -- Assumes nothing.
-use Rattle.std.specs.Prelude.{ℕ, ◌≡◌, Bool, eqb, Option, Some, None, Result, Ok, Err, OnOk, List, length}
+use Rattle.std.specs.Prelude.{ℕ, ◌≡◌, Bool, eqb, Option, Some, None, Result, Ok, Err, OnOk, List, [], ◌∷◌, length}
 use Rattle.std.specs.Borrow.{MutBor}
 use Rattle.rules.specs.declared.Spot.{Spot}
 use Rattle.rules.specs.Faults as fault
@@ -53,13 +53,34 @@ pub record Lent (v w : MutBor (List ℕ)) : Type 0 where
   pub same : w.ghost_name ≡ v.ghost_name
   pub long : length w.now ≡ length v.now
 
--- the same text and the same tables are still lent
+-- the same text, the same tables and the same index are still lent
 pub record Keeps (p q : Parser) : Type 0 where
   pub text : q.text.bytes.now ≡ p.text.bytes.now
   pub items : Lent p.items q.items
   pub statements : Lent p.statements q.statements
   pub operands : Lent p.operands q.operands
   pub attributes : Lent p.attributes q.attributes
+  pub index : Lent p.index q.index
+
+-- the words of the lent tables and of the index
+unfoldable pub lent_words : Parser → List (List ℕ)
+lent_words p = p.items.now ∷ p.statements.now ∷ p.operands.now ∷ p.attributes.now ∷ p.index.now ∷ []
+
+-- the same but for the index, and but for one table
+unfoldable pub lent_tables : Parser → List (List ℕ)
+lent_tables p = p.items.now ∷ p.statements.now ∷ p.operands.now ∷ p.attributes.now ∷ []
+
+unfoldable pub but_items : Parser → List (List ℕ)
+but_items p = p.statements.now ∷ p.operands.now ∷ p.attributes.now ∷ p.index.now ∷ []
+
+unfoldable pub but_statements : Parser → List (List ℕ)
+but_statements p = p.items.now ∷ p.operands.now ∷ p.attributes.now ∷ p.index.now ∷ []
+
+unfoldable pub but_operands : Parser → List (List ℕ)
+but_operands p = p.items.now ∷ p.statements.now ∷ p.attributes.now ∷ p.index.now ∷ []
+
+unfoldable pub but_attributes : Parser → List (List ℕ)
+but_attributes p = p.items.now ∷ p.statements.now ∷ p.operands.now ∷ p.index.now ∷ []
 
 -- the index holds rows of the item
 pub record Ready (p : Parser) : Type 0 where

@@ -13,7 +13,7 @@ ghost use Rattle.rules.specs.Reading as R;
 ghost use Rattle.rules.specs.Keywords.{keyword_number};
 ghost use Rattle.instructions.specs.Number.{instruction_number};
 ghost use Rattle.wide.specs.Wide.{bits};
-ghost use Rattle.parser.specs.Stands.{Runs, RunsTo, ahead_of, is_ahead, int_below};
+ghost use Rattle.parser.specs.Stands.{Runs, RunsTo, ahead_of, is_ahead, int_below, lent_words};
 ghost use Rattle.parser.specs.Next.{next_of};
 ghost use Rattle.rules.specs.Tokens.{token_at};
 
@@ -74,11 +74,61 @@ fn lexed(text: Text, from: u32) -> Result<Option<Spot>, Fault>
     }
 }
 
+// The keyword that a token of a text is.
+pub fn keyword_at(text: &[u8], t: Spot) -> Option<Keyword>
+    ensures { keyword_number result ≡ R.keyword_at text.now t }
+{
+    if t.kind != kind::IDENT {
+        return None;
+    }
+    instructions::keyword(letters(text, t.first, t.past))
+}
+
+// The instruction that a token of a text names.
+pub fn instruction_at(text: &[u8], t: Spot) -> Option<Instruction>
+    ensures { instruction_number result ≡ R.instruction_at text.now t }
+{
+    if t.kind != kind::IDENT {
+        return None;
+    }
+    instructions::instruction(letters(text, t.first, t.past))
+}
+
+// The number of a keyword in the definition's list, or that a word is none.
+fn number_of(k: Option<Keyword>) -> u8
+    ensures { result ≡ keyword_number k }
+{
+    match k {
+        Some(Keyword::Var) => 0,
+        Some(Keyword::Block) => 1,
+        Some(Keyword::Phi) => 2,
+        Some(Keyword::Reservedinst) => 3,
+        Some(Keyword::Reservedconst) => 4,
+        Some(Keyword::Pc) => 5,
+        Some(Keyword::Blockpc) => 6,
+        Some(Keyword::Infer) => 7,
+        Some(Keyword::Result) => 8,
+        Some(Keyword::Cand) => 9,
+        Some(Keyword::PowerOfTwo) => 10,
+        Some(Keyword::Negative) => 11,
+        Some(Keyword::NonNegative) => 12,
+        Some(Keyword::NonZero) => 13,
+        Some(Keyword::HasExternalUses) => 14,
+        Some(Keyword::SignBits) => 15,
+        Some(Keyword::Range) => 16,
+        Some(Keyword::DemandedBits) => 17,
+        Some(Keyword::HarvestedFromUse) => 18,
+        None => 19,
+    }
+}
+
 impl<'a, 'i> Parser<'a, 'i> {
     // The next token, looked at and not taken; none at the end of the text.
+    #[tactic(auto, unfolding(crate::specs::Stands::lent_words))]
     #[inline(always)]
     pub fn lookahead(&mut self) -> Result<Option<Spot>, Fault>
-        ensures { RunsTo ahead_of R.lookahead self.old result self.new }
+        ensures runs { RunsTo ahead_of R.lookahead self.old result self.new }
+        ensures leaves { lent_words self.new ≡ lent_words self.old }
     {
         if let Some(t) = self.stand.ahead {
             return Ok(Some(t));
@@ -96,9 +146,11 @@ impl<'a, 'i> Parser<'a, 'i> {
     }
 
     // The next token, taken.
+    #[tactic(auto, unfolding(crate::specs::Stands::lent_words))]
     #[inline(always)]
     pub fn token(&mut self) -> Result<Spot, Fault>
-        ensures { Runs R.token self.old result self.new }
+        ensures runs { Runs R.token self.old result self.new }
+        ensures leaves { lent_words self.new ≡ lent_words self.old }
     {
         if let Some(t) = self.stand.ahead {
             self.stand = Stand {
@@ -123,7 +175,8 @@ impl<'a, 'i> Parser<'a, 'i> {
     #[tactic(auto, using(crate::proofs::Chains::ends), unfolding(rules::specs::Reading::expect))]
     #[inline(always)]
     pub fn expect(&mut self, kind: u32) -> Result<Spot, Fault>
-        ensures { Runs (R.expect kind) self.old result self.new }
+        ensures runs { Runs (R.expect kind) self.old result self.new }
+        ensures leaves { lent_words self.new ≡ lent_words self.old }
     {
         let t = self.token()?;
         if t.kind == kind {
@@ -143,27 +196,22 @@ impl<'a, 'i> Parser<'a, 'i> {
     pub fn keyword_at(&self, t: Spot) -> Option<Keyword>
         ensures { keyword_number result ≡ R.keyword_at self.now.text.bytes.now t }
     {
-        if t.kind != kind::IDENT {
-            return None;
-        }
-        instructions::keyword(self.letters(t))
+        keyword_at(self.text.bytes, t)
     }
 
     // The instruction that a token names.
     pub fn instruction_at(&self, t: Spot) -> Option<Instruction>
         ensures { instruction_number result ≡ R.instruction_at self.now.text.bytes.now t }
     {
-        if t.kind != kind::IDENT {
-            return None;
-        }
-        instructions::instruction(self.letters(t))
+        instruction_at(self.text.bytes, t)
     }
 
     // The keyword that comes next, looked at and not taken.
     #[tactic(auto, using(crate::proofs::Chains::ends), unfolding(rules::specs::Reading::lookahead_ident))]
     #[inline(always)]
     pub fn keyword_ahead(&mut self) -> Result<Option<Keyword>, Fault>
-        ensures { RunsTo keyword_number R.lookahead_ident self.old result self.new }
+        ensures runs { RunsTo keyword_number R.lookahead_ident self.old result self.new }
+        ensures leaves { lent_words self.new ≡ lent_words self.old }
     {
         match self.lookahead()? {
             Some(t) => Ok(self.keyword_at(t)),
@@ -176,7 +224,8 @@ impl<'a, 'i> Parser<'a, 'i> {
     #[inline(always)]
     pub fn is_ahead(&mut self, kind: u32) -> Result<bool, Fault>
         requires { 1 ≤ kind }
-        ensures { Runs (is_ahead kind) self.old result self.new }
+        ensures runs { Runs (is_ahead kind) self.old result self.new }
+        ensures leaves { lent_words self.new ≡ lent_words self.old }
     {
         match self.lookahead()? {
             Some(t) => Ok(t.kind == kind),
@@ -187,10 +236,25 @@ impl<'a, 'i> Parser<'a, 'i> {
     // A keyword.
     #[tactic(auto, using(crate::proofs::Chains::ends), unfolding(rules::specs::Reading::ident))]
     pub fn ident(&mut self, which: Keyword) -> Result<Spot, Fault>
-        ensures { Runs (R.ident (keyword_number (Some which))) self.old result self.new }
+        ensures runs { Runs (R.ident (keyword_number (Some which))) self.old result self.new }
+        ensures leaves { lent_words self.new ≡ lent_words self.old }
     {
         let t = self.token()?;
         if self.keyword_at(t) == Some(which) {
+            return Ok(t);
+        }
+        Err(Fault::new(What::Token, t))
+    }
+
+    // A word, by the number that the definition gives its keyword, or that it gives a word that is none.
+    #[tactic(auto, using(crate::proofs::Chains::ends), unfolding(rules::specs::Reading::ident))]
+    pub fn ident_of(&mut self, which: u8) -> Result<Spot, Fault>
+        ensures runs { Runs (R.ident which) self.old result self.new }
+        ensures leaves { lent_words self.new ≡ lent_words self.old }
+    {
+        let t = self.token()?;
+        let n = number_of(self.keyword_at(t));
+        if n == which {
             return Ok(t);
         }
         Err(Fault::new(What::Token, t))
@@ -200,7 +264,8 @@ impl<'a, 'i> Parser<'a, 'i> {
     #[tactic(auto, using(crate::proofs::Chains::ends), unfolding(rules::specs::Reading::int))]
     #[inline(always)]
     pub fn int(&mut self) -> Result<Wide, Fault>
-        ensures { RunsTo bits R.int self.old result self.new }
+        ensures runs { RunsTo bits R.int self.old result self.new }
+        ensures leaves { lent_words self.new ≡ lent_words self.old }
     {
         let t = self.expect(kind::INT)?;
         match Wide::from_digits(self.letters(t)) {
@@ -212,7 +277,8 @@ impl<'a, 'i> Parser<'a, 'i> {
     // An integer that fits a field, unsigned; a fault at its token where it is above the most that does.
     #[tactic(auto, using(crate::proofs::Chains::ends), unfolding(crate::specs::Stands::int_below))]
     fn int_field(&mut self, most: u32) -> Result<u32, Fault>
-        ensures { Runs (int_below (most + 1)) self.old result self.new }
+        ensures runs { Runs (int_below (most + 1)) self.old result self.new }
+        ensures leaves { lent_words self.new ≡ lent_words self.old }
     {
         let n = self.int()?;
         match n.fits(most) {
@@ -223,21 +289,24 @@ impl<'a, 'i> Parser<'a, 'i> {
 
     // An integer that fits 8 bits, unsigned.
     pub fn int_8(&mut self) -> Result<u32, Fault>
-        ensures { Runs (R.int_field 8) self.old result self.new }
+        ensures runs { Runs (R.int_field 8) self.old result self.new }
+        ensures leaves { lent_words self.new ≡ lent_words self.old }
     {
         self.int_field(u8::MAX as u32)
     }
 
     // An integer that fits 32 bits, unsigned.
     pub fn int_32(&mut self) -> Result<u32, Fault>
-        ensures { Runs (R.int_field 32) self.old result self.new }
+        ensures runs { Runs (R.int_field 32) self.old result self.new }
+        ensures leaves { lent_words self.new ≡ lent_words self.old }
     {
         self.int_field(u32::MAX)
     }
 
     // A type's width.
     pub fn type_width(&mut self) -> Result<u32, Fault>
-        ensures { Runs R.type self.old result self.new }
+        ensures runs { Runs R.type self.old result self.new }
+        ensures leaves { lent_words self.new ≡ lent_words self.old }
     {
         let t = self.expect(kind::IDENT)?;
         match wide::type_width(self.letters(t)) {
@@ -249,7 +318,8 @@ impl<'a, 'i> Parser<'a, 'i> {
     // ':' and a type's width, or 0.
     #[inline(always)]
     pub fn type_if_any(&mut self) -> Result<u32, Fault>
-        ensures { Runs R.type_if_any self.old result self.new }
+        ensures runs { Runs R.type_if_any self.old result self.new }
+        ensures leaves { lent_words self.new ≡ lent_words self.old }
     {
         if self.is_ahead(kind::COLON)? {
             self.token()?;

@@ -1,14 +1,39 @@
 // Names, looked for among the item's statements by an index.
 ghost use Rattle.std.specs.Prelude.{◌≡◌, Ok};
 ghost use Rattle.rules.specs.Reading as R;
-ghost use Rattle.rules.specs.Rows.{statement_at};
+ghost use Rattle.rules.specs.Rows.{statement_at, statement_length};
+ghost use Rattle.rules.specs.World.{World};
+ghost use Rattle.tables.specs.Stands.{table};
 ghost use Rattle.index.specs.Linked.{Holds};
-ghost use Rattle.parser.specs.Stands.{Ready, Runs, rests, world};
+ghost use Rattle.parser.specs.Stands.{Ready, Runs, rests, world, lent_words, lent_tables};
 
 use crate::Parser;
 use crate::fault::{Fault, What};
 use rules::{Spot, code, kind};
+use tables::letters;
 use tables::rows::{code_at, number_at};
+
+// The statement that has the name which a token is, among those of a scope that are counted.
+#[inline(always)]
+pub fn in_scope(
+    text: &[u8],
+    statements: &[u32],
+    index: &[u16],
+    t: Spot,
+    first: u32,
+    past: u32,
+) -> Option<u32>
+    ensures { Holds text.now statements.now index.now first past → (w : World) → w.text ≡ text.now → w.scope ≡ first → w.tables.statements ≡ table statement_length past statements.now → result ≡ R.in_scope t w }
+{
+    index::find(
+        text,
+        statements,
+        index,
+        letters(text, t.first, t.past),
+        first,
+        past,
+    )
+}
 
 impl<'a, 'i> Parser<'a, 'i> {
     // The item's statement that has the name which a token is.
@@ -18,14 +43,7 @@ impl<'a, 'i> Parser<'a, 'i> {
     {
         let first = self.scope;
         let past = self.counts.statements;
-        index::find(
-            self.text.bytes,
-            self.statements,
-            self.index,
-            self.letters(t),
-            first,
-            past,
-        )
+        in_scope(self.text.bytes, self.statements, self.index, t, first, past)
     }
 
     // The code of a statement, by its row.
@@ -47,7 +65,8 @@ impl<'a, 'i> Parser<'a, 'i> {
     #[inline(always)]
     pub fn value(&mut self) -> Result<u32, Fault>
         requires { Ready self.old }
-        ensures { Runs R.value self.old result self.new }
+        ensures runs { Runs R.value self.old result self.new }
+        ensures leaves { lent_words self.new ≡ lent_words self.old }
     {
         let t = self.expect(kind::VAL_NAME)?;
         match self.in_scope(t) {
@@ -60,7 +79,8 @@ impl<'a, 'i> Parser<'a, 'i> {
     #[tactic(auto, using(crate::proofs::Chains::ends), unfolding(rules::specs::Reading::new_name))]
     pub fn new_name(&mut self) -> Result<Spot, Fault>
         requires { Ready self.old }
-        ensures { Runs R.new_name self.old result self.new }
+        ensures runs { Runs R.new_name self.old result self.new }
+        ensures leaves { lent_words self.new ≡ lent_words self.old }
     {
         let t = self.expect(kind::VAL_NAME)?;
         match self.in_scope(t) {
@@ -73,7 +93,8 @@ impl<'a, 'i> Parser<'a, 'i> {
     #[tactic(auto, using(crate::proofs::Chains::ends), unfolding(rules::specs::Reading::block))]
     pub fn block(&mut self) -> Result<u32, Fault>
         requires { Ready self.old }
-        ensures { Runs R.block self.old result self.new }
+        ensures runs { Runs R.block self.old result self.new }
+        ensures leaves { lent_words self.new ≡ lent_words self.old }
     {
         let t = self.expect(kind::VAL_NAME)?;
         let Some(r) = self.in_scope(t) else {
@@ -99,8 +120,10 @@ impl<'a, 'i> Parser<'a, 'i> {
     }
 
     // Statement rows of the item enter the index, once there are many that have not. It is taken out meanwhile: no proof covers a call that is lent both.
+    #[tactic(auto, unfolding(crate::specs::Stands::lent_tables))]
     pub fn hold(&mut self)
-        ensures { Runs rests self.old (Ok tt) self.new }
+        ensures runs { Runs rests self.old (Ok tt) self.new }
+        ensures leaves { lent_tables self.new ≡ lent_tables self.old }
     {
         let words = std::mem::take(&mut self.index);
         self.hold_in(words);

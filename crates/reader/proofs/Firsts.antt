@@ -15,6 +15,7 @@ use Rattle.parser.specs.declared.fault.Fault.{Fault}
 use Rattle.parser.specs.declared.fault.What.TheVariants as what
 use Rattle.parser.specs.Stands.{RunsTo, Runs, world, ahead_of, number_of}
 use Rattle.parser.proofs.Chains.{kept}
+use Rattle.parser.proofs.Leaves.{leaves}
 use Rattle.parser.proofs.Steps.{steps, then, stops, seen, still}
 use Rattle.reader.proofs.Words.{no_keyword}
 
@@ -70,4 +71,4 @@ pub ruleset keyword_steps = (steps, no_side, no_word)
 
 pub ruleset word_steps = (by_instruction, by_keyword)
 
-pub ruleset rhs_steps = (stops, still, rhs)
+pub ruleset rhs_steps = (stops, still, rhs, leaves)

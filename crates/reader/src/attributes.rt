@@ -4,7 +4,7 @@ ghost use Rattle.rules.specs.Bytes.{bit};
 ghost use Rattle.rules.specs.Reading as R;
 ghost use Rattle.rules.specs.Keywords.{keyword_number};
 ghost use Rattle.wide.specs.Wide.{bits};
-ghost use Rattle.parser.specs.Stands.{Runs};
+ghost use Rattle.parser.specs.Stands.{Runs, but_attributes, lent_words};
 ghost use Rattle.reader.specs.Roots.{root_attribute_inner};
 
 use parser::{Fault, Parser, What};
@@ -34,10 +34,12 @@ fn numbered(code: u32, pattern: Span, low: Wide, high: Wide) -> Attribute
     }
 }
 
-// ')' and the row of an attribute.
+// ')' and the row of an attribute. Inlined: as a call, which is handed the row in memory, a text of many attributes takes a third longer.
 #[tactic(auto, using(parser::proofs::Steps::steps), unfolding(rules::specs::Reading::close_attribute))]
+#[inline(always)]
 fn close(p: &mut Parser, row: Attribute) -> Result<(), Fault>
-    ensures { Runs (R.close_attribute row) p.old result p.new }
+    ensures runs { Runs (R.close_attribute row) p.old result p.new }
+    ensures leaves { but_attributes p.new ≡ but_attributes p.old }
 {
     p.expect(kind::CLOSE_PAREN)?;
     p.claim_attribute(row)
@@ -56,7 +58,8 @@ fn pattern_of(t: Spot) -> Span
 // What stands behind `signBits`: '=', a number of 8 bits, ')' and the row.
 #[tactic(auto, using(parser::proofs::Steps::steps), unfolding(rules::specs::Reading::sign_bits))]
 fn sign_bits(p: &mut Parser) -> Result<(), Fault>
-    ensures { Runs R.sign_bits p.old result p.new }
+    ensures runs { Runs R.sign_bits p.old result p.new }
+    ensures leaves { but_attributes p.new ≡ but_attributes p.old }
 {
     p.expect(kind::EQ)?;
     let n = p.int_8()?;
@@ -72,7 +75,8 @@ fn sign_bits(p: &mut Parser) -> Result<(), Fault>
 // What stands behind `range`: '=', two numbers as in `[1,5)`, ')' and the row.
 #[tactic(auto, using(parser::proofs::Steps::steps), unfolding(rules::specs::Reading::range))]
 fn range(p: &mut Parser) -> Result<(), Fault>
-    ensures { Runs R.range p.old result p.new }
+    ensures runs { Runs R.range p.old result p.new }
+    ensures leaves { but_attributes p.new ≡ but_attributes p.old }
 {
     p.expect(kind::EQ)?;
     p.expect(kind::OPEN_BRACKET)?;
@@ -85,8 +89,10 @@ fn range(p: &mut Parser) -> Result<(), Fault>
 
 // An attribute that is a keyword alone, by its code.
 #[tactic(auto, using(crate::proofs::Codes::flag_row), unfolding(rules::specs::Reading::flag))]
+#[inline(always)]
 fn flag(p: &mut Parser, code: u32) -> Result<(), Fault>
-    ensures { Runs (R.flag (code + 8)) p.old result p.new }
+    ensures runs { Runs (R.flag (code + 8)) p.old result p.new }
+    ensures leaves { but_attributes p.new ≡ but_attributes p.old }
 {
     close(p, plain(code, NOWHERE))
 }
@@ -94,7 +100,8 @@ fn flag(p: &mut Parser, code: u32) -> Result<(), Fault>
 // What stands behind '(': the token t, which is the keyword k, if it is one.
 #[tactic(auto, using(crate::proofs::Codes::attribute_steps), unfolding(rules::specs::Reading::attribute_inner))]
 fn attribute_inner(p: &mut Parser, t: Spot, k: Option<Keyword>) -> Result<(), Fault>
-    ensures { Runs (R.attribute_inner t (keyword_number k)) p.old result p.new }
+    ensures runs { Runs (R.attribute_inner t (keyword_number k)) p.old result p.new }
+    ensures leaves { but_attributes p.new ≡ but_attributes p.old }
 {
     if t.kind == kind::KNOWN_BITS {
         return close(p, plain(code::KNOWN_BITS, pattern_of(t)));
@@ -117,7 +124,8 @@ fn attribute_inner(p: &mut Parser, t: Spot, k: Option<Keyword>) -> Result<(), Fa
 // An attribute, in parentheses.
 #[tactic(auto, using(parser::proofs::Steps::steps), unfolding(rules::specs::Reading::attribute, parser::specs::Stands::world))]
 fn attribute(p: &mut Parser) -> Result<(), Fault>
-    ensures { Runs R.attribute p.old result p.new }
+    ensures runs { Runs R.attribute p.old result p.new }
+    ensures leaves { but_attributes p.new ≡ but_attributes p.old }
 {
     p.expect(kind::OPEN_PAREN)?;
     let t = p.token()?;
@@ -147,7 +155,8 @@ fn all_bits(s: &[u8]) -> bool
 // What stands behind `demandedBits`: '=', a pattern of 0 and 1, ')' and the row.
 #[tactic(auto, using(parser::proofs::Steps::steps), unfolding(rules::specs::Reading::demanded_bits, parser::specs::Stands::world))]
 fn demanded_bits(p: &mut Parser) -> Result<(), Fault>
-    ensures { Runs R.demanded_bits p.old result p.new }
+    ensures runs { Runs R.demanded_bits p.old result p.new }
+    ensures leaves { but_attributes p.new ≡ but_attributes p.old }
 {
     p.expect(kind::EQ)?;
     let t = p.expect(kind::INT)?;
@@ -167,7 +176,8 @@ fn demanded_bits(p: &mut Parser) -> Result<(), Fault>
 // What stands behind the '(' of a root attribute: the token t, which is the keyword k, if it is one.
 #[tactic(auto, using(parser::proofs::Steps::steps), unfolding(crate::specs::Roots::root_attribute_inner))]
 fn root_attribute_inner(p: &mut Parser, t: Spot, k: Option<Keyword>) -> Result<(), Fault>
-    ensures { Runs (root_attribute_inner t (keyword_number k)) p.old result p.new }
+    ensures runs { Runs (root_attribute_inner t (keyword_number k)) p.old result p.new }
+    ensures leaves { but_attributes p.new ≡ but_attributes p.old }
 {
     match k {
         Some(Keyword::HarvestedFromUse) => flag(p, code::HARVESTED_FROM_USE),
@@ -182,7 +192,8 @@ fn root_attribute_inner(p: &mut Parser, t: Spot, k: Option<Keyword>) -> Result<(
 // A root attribute, in parentheses: harvestedFromUse or demandedBits.
 #[tactic(auto, using(parser::proofs::Steps::steps), unfolding(rules::specs::Reading::root_attribute, crate::specs::Roots::root_attribute_inner, parser::specs::Stands::world))]
 fn root_attribute(p: &mut Parser) -> Result<(), Fault>
-    ensures { Runs R.root_attribute p.old result p.new }
+    ensures runs { Runs R.root_attribute p.old result p.new }
+    ensures leaves { but_attributes p.new ≡ but_attributes p.old }
 {
     p.expect(kind::OPEN_PAREN)?;
     let t = p.token()?;
@@ -193,7 +204,8 @@ fn root_attribute(p: &mut Parser) -> Result<(), Fault>
 // Whether '(' comes next.
 #[tactic(auto, unfolding(rules::specs::Reading::open_paren_ahead, parser::specs::Stands::is_ahead))]
 fn open_paren_ahead(p: &mut Parser) -> Result<bool, Fault>
-    ensures { Runs R.open_paren_ahead p.old result p.new }
+    ensures runs { Runs R.open_paren_ahead p.old result p.new }
+    ensures leaves { lent_words p.new ≡ lent_words p.old }
 {
     p.is_ahead(kind::OPEN_PAREN)
 }
@@ -201,7 +213,8 @@ fn open_paren_ahead(p: &mut Parser) -> Result<bool, Fault>
 // The attributes that stand here, as many as there are. This loop and its like (root attributes, statements, items) stay four: one over a rule that is handed in would be
 // longer than they are.
 pub fn attributes_of(p: &mut Parser) -> Result<(), Fault>
-    ensures { Runs R.attributes p.old result p.new }
+    ensures runs { Runs R.attributes p.old result p.new }
+    ensures leaves { but_attributes p.new ≡ but_attributes p.old }
 {
     while open_paren_ahead(p)? {
         attribute(p)?;
@@ -211,7 +224,8 @@ pub fn attributes_of(p: &mut Parser) -> Result<(), Fault>
 
 // The root attributes that stand here, as many as there are.
 pub fn root_attributes(p: &mut Parser) -> Result<(), Fault>
-    ensures { Runs R.root_attributes p.old result p.new }
+    ensures runs { Runs R.root_attributes p.old result p.new }
+    ensures leaves { but_attributes p.new ≡ but_attributes p.old }
 {
     while open_paren_ahead(p)? {
         root_attribute(p)?;

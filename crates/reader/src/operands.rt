@@ -1,7 +1,7 @@
 // Operands: values and constants.
 ghost use Rattle.std.specs.Prelude.{◌≡◌};
 ghost use Rattle.rules.specs.Reading as R;
-ghost use Rattle.parser.specs.Stands.{Ready, Runs};
+ghost use Rattle.parser.specs.Stands.{Ready, Runs, but_operands, lent_words};
 ghost use Rattle.reader.specs.Commas.{comma_if, operands_behind, wanted};
 
 use parser::{Fault, Parser};
@@ -11,7 +11,8 @@ use wide::Wide;
 // An integer and a type, if any.
 #[tactic(auto, using(parser::proofs::Steps::steps), unfolding(rules::specs::Reading::constant))]
 fn constant(p: &mut Parser) -> Result<(), Fault>
-    ensures { Runs R.constant p.old result p.new }
+    ensures runs { Runs R.constant p.old result p.new }
+    ensures leaves { but_operands p.new ≡ but_operands p.old }
 {
     let n = p.int()?;
     let width = p.type_if_any()?;
@@ -27,7 +28,8 @@ fn constant(p: &mut Parser) -> Result<(), Fault>
 #[tactic(auto, using(parser::proofs::Steps::steps), unfolding(rules::specs::Reading::named))]
 fn named(p: &mut Parser) -> Result<(), Fault>
     requires { Ready p.old }
-    ensures { Runs R.named p.old result p.new }
+    ensures runs { Runs R.named p.old result p.new }
+    ensures leaves { but_operands p.new ≡ but_operands p.old }
 {
     let row = p.value()?;
     p.claim_operand(Operand {
@@ -42,7 +44,8 @@ fn named(p: &mut Parser) -> Result<(), Fault>
 #[tactic(auto, using(crate::proofs::Looks::look_steps), unfolding(rules::specs::Reading::operand, parser::specs::Stands::is_ahead))]
 fn named_or_constant(p: &mut Parser) -> Result<(), Fault>
     requires { Ready p.old }
-    ensures { Runs R.operand p.old result p.new }
+    ensures runs { Runs R.operand p.old result p.new }
+    ensures leaves { but_operands p.new ≡ but_operands p.old }
 {
     if p.is_ahead(kind::VAL_NAME)? {
         return named(p);
@@ -53,7 +56,8 @@ fn named_or_constant(p: &mut Parser) -> Result<(), Fault>
 // A comma, where one is wanted.
 #[tactic(auto, using(parser::proofs::Steps::steps), unfolding(crate::specs::Commas::comma_if))]
 fn comma_if(p: &mut Parser, wanted: bool) -> Result<(), Fault>
-    ensures { Runs (comma_if wanted) p.old result p.new }
+    ensures runs { Runs (comma_if wanted) p.old result p.new }
+    ensures leaves { lent_words p.new ≡ lent_words p.old }
 {
     if wanted {
         p.expect(kind::COMMA)?;
@@ -72,7 +76,8 @@ fn is_behind(comma: bool, i: u32) -> bool
 // Every operand is read here, in one place, so that reading one is folded into the loop.
 fn operands_behind(p: &mut Parser, n: u32, comma: bool) -> Result<(), Fault>
     requires { Ready p.old }
-    ensures { Runs (operands_behind comma n) p.old result p.new }
+    ensures runs { Runs (operands_behind comma n) p.old result p.new }
+    ensures leaves { but_operands p.new ≡ but_operands p.old }
 {
     for i in 0..n {
         let behind = is_behind(comma, i);
@@ -85,7 +90,8 @@ fn operands_behind(p: &mut Parser, n: u32, comma: bool) -> Result<(), Fault>
 #[tactic(auto, using(crate::proofs::Commas::one_operand))]
 pub fn operand(p: &mut Parser) -> Result<(), Fault>
     requires { Ready p.old }
-    ensures { Runs R.operand p.old result p.new }
+    ensures runs { Runs R.operand p.old result p.new }
+    ensures leaves { but_operands p.new ≡ but_operands p.old }
 {
     operands_behind(p, 1, false)
 }
@@ -94,7 +100,8 @@ pub fn operand(p: &mut Parser) -> Result<(), Fault>
 #[tactic(auto, using(crate::proofs::Commas::all_behind))]
 pub fn further_operands(p: &mut Parser, n: u32) -> Result<(), Fault>
     requires { Ready p.old }
-    ensures { Runs (R.further_operands n) p.old result p.new }
+    ensures runs { Runs (R.further_operands n) p.old result p.new }
+    ensures leaves { but_operands p.new ≡ but_operands p.old }
 {
     operands_behind(p, n, true)
 }
@@ -103,7 +110,8 @@ pub fn further_operands(p: &mut Parser, n: u32) -> Result<(), Fault>
 #[tactic(auto, using(crate::proofs::Commas::all_between))]
 pub fn operands_of(p: &mut Parser, n: u32) -> Result<(), Fault>
     requires { Ready p.old }
-    ensures { Runs (R.operands n) p.old result p.new }
+    ensures runs { Runs (R.operands n) p.old result p.new }
+    ensures leaves { but_operands p.new ≡ but_operands p.old }
 {
     operands_behind(p, n, false)
 }

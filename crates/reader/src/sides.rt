@@ -2,7 +2,7 @@
 ghost use Rattle.std.specs.Prelude.{◌≡◌, ◌≤◌, ◌-◌};
 ghost use Rattle.rules.specs.Keywords.{keyword_number};
 ghost use Rattle.rules.specs.Reading as R;
-ghost use Rattle.parser.specs.Stands.{Ready, Runs, ahead_of};
+ghost use Rattle.parser.specs.Stands.{Ready, Runs, ahead_of, but_operands, lent_words};
 
 use crate::operands::{further_operands, operands_of};
 use instructions::Instruction;
@@ -25,7 +25,8 @@ pub(crate) fn plain(code: u32) -> Side
 #[tactic(auto, using(parser::proofs::Steps::steps), unfolding(rules::specs::Reading::plain_side))]
 fn plain_side(p: &mut Parser, code: u32) -> Result<Side, Fault>
     requires { 60 ≤ code }
-    ensures { Runs (R.plain_side (code - 60)) p.old result p.new }
+    ensures runs { Runs (R.plain_side (code - 60)) p.old result p.new }
+    ensures leaves { lent_words p.new ≡ lent_words p.old }
 {
     p.token()?;
     Ok(plain(code))
@@ -33,7 +34,8 @@ fn plain_side(p: &mut Parser, code: u32) -> Result<Side, Fault>
 
 #[tactic(auto, using(parser::proofs::Steps::steps), unfolding(rules::specs::Reading::block_side))]
 fn block_side(p: &mut Parser) -> Result<Side, Fault>
-    ensures { Runs R.block_side p.old result p.new }
+    ensures runs { Runs R.block_side p.old result p.new }
+    ensures leaves { lent_words p.new ≡ lent_words p.old }
 {
     p.token()?;
     let number = p.int_32()?;
@@ -47,7 +49,8 @@ fn block_side(p: &mut Parser) -> Result<Side, Fault>
 #[tactic(auto, using(crate::proofs::Blocks::phi_steps), unfolding(rules::specs::Reading::phi_side, parser::specs::Stands::world))]
 fn phi_side(p: &mut Parser) -> Result<Side, Fault>
     requires { Ready p.old }
-    ensures { Runs R.phi_side p.old result p.new }
+    ensures runs { Runs R.phi_side p.old result p.new }
+    ensures leaves { but_operands p.new ≡ but_operands p.old }
 {
     p.token()?;
     let block = p.block()?;
@@ -63,7 +66,8 @@ fn phi_side(p: &mut Parser) -> Result<Side, Fault>
 #[tactic(auto, using(parser::proofs::Steps::steps), unfolding(rules::specs::Reading::instruction_side))]
 fn instruction_side(p: &mut Parser, i: Instruction) -> Result<Side, Fault>
     requires { Ready p.old }
-    ensures { Runs (R.instruction_side i.place) p.old result p.new }
+    ensures runs { Runs (R.instruction_side i.place) p.old result p.new }
+    ensures leaves { but_operands p.new ≡ but_operands p.old }
 {
     p.token()?;
     operands_of(p, i.arity() as u32)?;
@@ -74,7 +78,8 @@ fn instruction_side(p: &mut Parser, i: Instruction) -> Result<Side, Fault>
 #[tactic(auto, using(crate::proofs::Firsts::keyword_steps), unfolding(rules::specs::Reading::side_of))]
 fn keyword_side(p: &mut Parser, k: Option<Keyword>) -> Result<Side, Fault>
     requires { Ready p.old }
-    ensures { Runs (R.side_of (keyword_number k) 59) p.old result p.new }
+    ensures runs { Runs (R.side_of (keyword_number k) 59) p.old result p.new }
+    ensures leaves { but_operands p.new ≡ but_operands p.old }
 {
     match k {
         Some(Keyword::Var) => plain_side(p, code::VAR),
@@ -93,7 +98,8 @@ fn keyword_side(p: &mut Parser, k: Option<Keyword>) -> Result<Side, Fault>
 #[tactic(auto, using(crate::proofs::Firsts::word_steps), unfolding(rules::specs::Reading::keyword_at, rules::specs::Reading::instruction_at))]
 fn side_ahead(p: &mut Parser, ahead: Option<Spot>) -> Result<Side, Fault>
     requires { Ready p.old }
-    ensures { Runs (R.side_of (R.keyword_at p.old.text.bytes.now (ahead_of ahead)) (R.instruction_at p.old.text.bytes.now (ahead_of ahead))) p.old result p.new }
+    ensures runs { Runs (R.side_of (R.keyword_at p.old.text.bytes.now (ahead_of ahead)) (R.instruction_at p.old.text.bytes.now (ahead_of ahead))) p.old result p.new }
+    ensures leaves { but_operands p.new ≡ but_operands p.old }
 {
     let Some(t) = ahead else {
         return keyword_side(p, None);
@@ -108,7 +114,8 @@ fn side_ahead(p: &mut Parser, ahead: Option<Spot>) -> Result<Side, Fault>
 #[tactic(auto, using(crate::proofs::Firsts::rhs_steps), unfolding(rules::specs::Reading::assignment_rhs))]
 pub fn assignment_rhs(p: &mut Parser) -> Result<Side, Fault>
     requires { Ready p.old }
-    ensures { Runs R.assignment_rhs p.old result p.new }
+    ensures runs { Runs R.assignment_rhs p.old result p.new }
+    ensures leaves { but_operands p.new ≡ but_operands p.old }
 {
     let ahead = p.lookahead()?;
     side_ahead(p, ahead)

@@ -6,7 +6,7 @@ ghost use Rattle.rules.specs.Keywords.{keyword_number};
 ghost use Rattle.rules.specs.Rows.{◌up_to◌};
 ghost use Rattle.rules.specs.Reading as R;
 ghost use Rattle.reader.specs.Roots.{statement_by};
-ghost use Rattle.parser.specs.Stands.{Ready, Runs, ahead_of};
+ghost use Rattle.parser.specs.Stands.{Ready, Runs, ahead_of, lent_words};
 
 use crate::attributes::attributes_of;
 use crate::operands::operand;
@@ -26,7 +26,8 @@ pub(crate) fn since(first: u32, past: u32) -> Span
 #[tactic(auto, using(parser::proofs::Steps::steps), unfolding(rules::specs::Reading::assignment, parser::specs::Stands::world))]
 fn assignment(p: &mut Parser) -> Result<(), Fault>
     requires { Ready p.old }
-    ensures { Runs R.assignment p.old result p.new }
+    ensures runs { Runs R.assignment p.old result p.new }
+    ensures leaves { p.new.items.now ≡ p.old.items.now }
 {
     let name = p.new_name()?;
     let width = p.type_if_any()?;
@@ -55,7 +56,8 @@ fn assignment(p: &mut Parser) -> Result<(), Fault>
 #[tactic(auto, using(parser::proofs::Steps::steps), unfolding(rules::specs::Reading::condition, parser::specs::Stands::world))]
 fn condition(p: &mut Parser, side: Side) -> Result<(), Fault>
     requires { Ready p.old }
-    ensures { Runs (R.condition side.code side.number side.block) p.old result p.new }
+    ensures runs { Runs (R.condition side.code side.number side.block) p.old result p.new }
+    ensures leaves { p.new.items.now ≡ p.old.items.now }
 {
     let first_operand = p.counts.operands;
     operand(p)?;
@@ -78,7 +80,8 @@ fn condition(p: &mut Parser, side: Side) -> Result<(), Fault>
 #[tactic(auto, using(parser::proofs::Steps::steps), unfolding(rules::specs::Reading::pc))]
 fn pc(p: &mut Parser) -> Result<(), Fault>
     requires { Ready p.old }
-    ensures { Runs R.pc p.old result p.new }
+    ensures runs { Runs R.pc p.old result p.new }
+    ensures leaves { p.new.items.now ≡ p.old.items.now }
 {
     p.token()?;
     condition(p, plain(code::PC))
@@ -88,7 +91,8 @@ fn pc(p: &mut Parser) -> Result<(), Fault>
 #[tactic(auto, using(parser::proofs::Steps::steps), unfolding(rules::specs::Reading::blockpc))]
 fn blockpc(p: &mut Parser) -> Result<(), Fault>
     requires { Ready p.old }
-    ensures { Runs R.blockpc p.old result p.new }
+    ensures runs { Runs R.blockpc p.old result p.new }
+    ensures leaves { p.new.items.now ≡ p.old.items.now }
 {
     p.token()?;
     let block = p.block()?;
@@ -124,7 +128,8 @@ fn begins_statement(p: &Parser, ahead: Option<Spot>) -> bool
 // Whether a statement comes next.
 #[tactic(auto, using(crate::proofs::Looks::statement_steps), unfolding(rules::specs::Reading::statement_ahead))]
 fn statement_ahead(p: &mut Parser) -> Result<bool, Fault>
-    ensures { Runs R.statement_ahead p.old result p.new }
+    ensures runs { Runs R.statement_ahead p.old result p.new }
+    ensures leaves { lent_words p.new ≡ lent_words p.old }
 {
     let ahead = p.lookahead()?;
     Ok(begins_statement(p, ahead))
@@ -134,7 +139,8 @@ fn statement_ahead(p: &mut Parser) -> Result<bool, Fault>
 #[tactic(auto, using(parser::proofs::Steps::steps))]
 fn condition_by(p: &mut Parser, k: Option<Keyword>) -> Result<(), Fault>
     requires { Ready p.old }
-    ensures { Runs (cond (eqb (keyword_number k) word.pc) R.pc R.blockpc) p.old result p.new }
+    ensures runs { Runs (cond (eqb (keyword_number k) word.pc) R.pc R.blockpc) p.old result p.new }
+    ensures leaves { p.new.items.now ≡ p.old.items.now }
 {
     match k {
         Some(Keyword::Pc) => pc(p),
@@ -146,7 +152,8 @@ fn condition_by(p: &mut Parser, k: Option<Keyword>) -> Result<(), Fault>
 #[tactic(auto, using(crate::proofs::Looks::statement_ways), unfolding(rules::specs::Reading::keyword_at))]
 fn statement_from(p: &mut Parser, ahead: Option<Spot>) -> Result<(), Fault>
     requires { Ready p.old }
-    ensures { Runs (statement_by p.old.text.bytes.now (ahead_of ahead)) p.old result p.new }
+    ensures runs { Runs (statement_by p.old.text.bytes.now (ahead_of ahead)) p.old result p.new }
+    ensures leaves { p.new.items.now ≡ p.old.items.now }
 {
     let Some(t) = ahead else {
         return condition_by(p, None);
@@ -162,7 +169,8 @@ fn statement_from(p: &mut Parser, ahead: Option<Spot>) -> Result<(), Fault>
 #[tactic(auto, using(parser::proofs::Steps::steps))]
 fn statement(p: &mut Parser) -> Result<(), Fault>
     requires { Ready p.old }
-    ensures { Runs R.statement p.old result p.new }
+    ensures runs { Runs R.statement p.old result p.new }
+    ensures leaves { p.new.items.now ≡ p.old.items.now }
 {
     p.hold();
     let ahead = p.lookahead()?;
@@ -172,7 +180,8 @@ fn statement(p: &mut Parser) -> Result<(), Fault>
 // Statements, as many as come one after another.
 pub fn statements_of(p: &mut Parser) -> Result<(), Fault>
     requires { Ready p.old }
-    ensures { Runs R.statements p.old result p.new }
+    ensures runs { Runs R.statements p.old result p.new }
+    ensures leaves { p.new.items.now ≡ p.old.items.now }
 {
     while statement_ahead(p)? {
         statement(p)?;

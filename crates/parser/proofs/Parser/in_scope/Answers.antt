@@ -1,5 +1,7 @@
-use Rattle.parser.proofs.Scope.{searched}
+use mathlib.Core.Path.{refl}
+use Rattle.parser.specs.Stands.{world}
 use Rattle.parser.proofs.Parser.in_scope.Goals as goal
 
 pub returns : goal.returns
-returns c ready = searched c.args.self.now _ (c.find.ensures ready.holds) c.letters.ensures
+unfolding world
+returns c ready = c.in_scope.ensures ready.holds (world c.args.self.now) refl refl refl

@@ -2,6 +2,6 @@ use Rattle.rules.specs.Reading as R
 use Rattle.parser.specs.Stands.{int_below}
 use Rattle.parser.proofs.Parser.int_8.Goals as goal
 
-pub returns : goal.returns
+pub returns-clause-runs : goal.returns-clause-runs
 unfolding R.int_field int_below
-returns c = c.int_field.ensures
+returns-clause-runs c = c.int_field.ensures.runs

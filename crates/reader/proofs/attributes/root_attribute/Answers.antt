@@ -6,9 +6,9 @@ use Rattle.parser.proofs.Steps.{then, seen}
 use Rattle.reader.specs.Roots.{root_attribute_inner}
 use Rattle.reader.proofs.attributes.root_attribute.Goals as goal
 
-pub returns : goal.returns
+pub returns-clause-runs : goal.returns-clause-runs
 unfolding R.root_attribute root_attribute_inner world
-returns c =
-    then _ _ _ _ _ _ _ _ _ c.in_ok-expect.ensures
-    (then _ _ _ _ _ _ _ _ _ c.in_ok-t.ensures
-    (seen _ _ _ _ _ _ _ c.keyword_at-k.ensures c.root_attribute_inner.ensures))
+returns-clause-runs c =
+    then _ _ _ _ _ _ _ _ _ c.in_ok-expect.ensures.runs
+    (then _ _ _ _ _ _ _ _ _ c.in_ok-t.ensures.runs
+    (seen _ _ _ _ _ _ _ c.keyword_at-k.ensures c.root_attribute_inner.ensures.runs))

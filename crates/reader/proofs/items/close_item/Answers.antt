@@ -12,12 +12,12 @@ unfolding R.close_item world
 returns-in_err-claim_item c =
     seen _ _ _ _ _ _ _ refl
     (seen _ _ _ _ _ _ _ refl
-    (stops _ _ _ _ _ _ _ _ (search rules) c.in_err-claim_item.ensures))
+    (stops _ _ _ _ _ _ _ _ (search rules) c.in_err-claim_item.ensures.runs))
 
 pub returns : goal.returns
 unfolding R.close_item world
 returns c =
     seen _ _ _ _ _ _ _ refl
     (seen _ _ _ _ _ _ _ refl
-    (then _ _ _ _ _ _ _ _ _ c.in_ok-claim_item.ensures
-    (scope_ends _ _ _ _ c.in_ok-claim_item.ensures c.end_scope.ensures)))
+    (then _ _ _ _ _ _ _ _ _ c.in_ok-claim_item.ensures.runs
+    (scope_ends _ _ _ _ c.in_ok-claim_item.ensures.runs c.end_scope.ensures.runs)))

@@ -18,7 +18,7 @@ returns-in_err-statements_of c =
     seen _ _ _ _ _ _ _ refl
     (then _ _ _ _ _ _ _ _ _ c.in_ok-infer.ensures
     (seen _ _ _ _ _ _ _ refl
-    (stops _ _ _ _ _ _ _ _ (search rules) c.in_err-statements_of.ensures)))
+    (stops _ _ _ _ _ _ _ _ (search rules) c.in_err-statements_of.ensures.runs)))
 
 pub returns : goal.returns
 unfolding R.infer_and_result world
@@ -26,5 +26,5 @@ returns c =
     seen _ _ _ _ _ _ _ refl
     (then _ _ _ _ _ _ _ _ _ c.in_ok-infer.ensures
     (seen _ _ _ _ _ _ _ refl
-    (then _ _ _ _ _ _ _ _ _ c.in_ok-statements_of.ensures
+    (then _ _ _ _ _ _ _ _ _ c.in_ok-statements_of.ensures.runs
     (rw (← c.since-attributes.ensures) c.result_line.ensures))))

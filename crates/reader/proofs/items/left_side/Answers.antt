@@ -9,7 +9,7 @@ use Rattle.reader.proofs.items.left_side.Goals as goal
 pub returns-in_err-infer : goal.returns-in_err-infer
 unfolding R.left_side world
 returns-in_err-infer c =
-    then _ _ _ _ _ _ _ _ _ c.in_ok-statements_of.ensures
+    then _ _ _ _ _ _ _ _ _ c.in_ok-statements_of.ensures.runs
     (seen _ _ _ _ _ _ _ refl
     (seen _ _ _ _ _ _ _ refl
     (stops _ _ _ _ _ _ _ _ (search rules) c.in_err-infer.ensures)))
@@ -17,7 +17,7 @@ returns-in_err-infer c =
 pub returns : goal.returns
 unfolding R.left_side world
 returns c =
-    then _ _ _ _ _ _ _ _ _ c.in_ok-statements_of.ensures
+    then _ _ _ _ _ _ _ _ _ c.in_ok-statements_of.ensures.runs
     (seen _ _ _ _ _ _ _ refl
     (seen _ _ _ _ _ _ _ refl
     (then _ _ _ _ _ _ _ _ _ c.in_ok-infer.ensures

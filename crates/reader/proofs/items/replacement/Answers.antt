@@ -9,7 +9,7 @@ use Rattle.reader.proofs.items.replacement.Goals as goal
 pub returns : goal.returns
 unfolding R.replacement world
 returns c =
-    then _ _ _ _ _ _ _ _ _ c.in_ok-statements_of.ensures
+    then _ _ _ _ _ _ _ _ _ c.in_ok-statements_of.ensures.runs
     (seen _ _ _ _ _ _ _ refl
-    (then _ _ _ _ _ _ _ _ _ c.in_ok-k.ensures
+    (then _ _ _ _ _ _ _ _ _ c.in_ok-k.ensures.runs
     (c.line_by.ensures)))

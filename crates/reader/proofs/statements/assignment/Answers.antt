@@ -6,37 +6,37 @@ use Rattle.parser.specs.Stands.{world}
 use Rattle.parser.proofs.Steps.{then, stops, seen}
 use Rattle.reader.proofs.statements.assignment.Goals as goal
 
-pub returns-in_err-side : goal.returns-in_err-side
+pub returns-in_err-side-clause-runs : goal.returns-in_err-side-clause-runs
 unfolding R.assignment world
-returns-in_err-side c =
-    then _ _ _ _ _ _ _ _ _ c.in_ok-name.ensures
-    (then _ _ _ _ _ _ _ _ _ c.in_ok-width.ensures
-    (then _ _ _ _ _ _ _ _ _ c.in_ok-expect.ensures
+returns-in_err-side-clause-runs c =
+    then _ _ _ _ _ _ _ _ _ c.in_ok-name.ensures.runs
+    (then _ _ _ _ _ _ _ _ _ c.in_ok-width.ensures.runs
+    (then _ _ _ _ _ _ _ _ _ c.in_ok-expect.ensures.runs
     (seen _ _ _ _ _ _ _ refl
-    (stops _ _ _ _ _ _ _ _ (search rules) c.in_err-side.ensures))))
+    (stops _ _ _ _ _ _ _ _ (search rules) c.in_err-side.ensures.runs))))
 
-pub returns-in_err-attributes_of : goal.returns-in_err-attributes_of
+pub returns-in_err-attributes_of-clause-runs : goal.returns-in_err-attributes_of-clause-runs
 unfolding R.assignment world
-returns-in_err-attributes_of c =
-    then _ _ _ _ _ _ _ _ _ c.in_ok-name.ensures
-    (then _ _ _ _ _ _ _ _ _ c.in_ok-width.ensures
-    (then _ _ _ _ _ _ _ _ _ c.in_ok-expect.ensures
+returns-in_err-attributes_of-clause-runs c =
+    then _ _ _ _ _ _ _ _ _ c.in_ok-name.ensures.runs
+    (then _ _ _ _ _ _ _ _ _ c.in_ok-width.ensures.runs
+    (then _ _ _ _ _ _ _ _ _ c.in_ok-expect.ensures.runs
     (seen _ _ _ _ _ _ _ refl
-    (then _ _ _ _ _ _ _ _ _ c.in_ok-side.ensures
+    (then _ _ _ _ _ _ _ _ _ c.in_ok-side.ensures.runs
     (seen _ _ _ _ _ _ _ refl
     (seen _ _ _ _ _ _ _ refl
-    (stops _ _ _ _ _ _ _ _ (search rules) c.in_err-attributes_of.ensures)))))))
+    (stops _ _ _ _ _ _ _ _ (search rules) c.in_err-attributes_of.ensures.runs)))))))
 
-pub returns : goal.returns
+pub returns-clause-runs : goal.returns-clause-runs
 unfolding R.assignment world
-returns c =
-    then _ _ _ _ _ _ _ _ _ c.in_ok-name.ensures
-    (then _ _ _ _ _ _ _ _ _ c.in_ok-width.ensures
-    (then _ _ _ _ _ _ _ _ _ c.in_ok-expect.ensures
+returns-clause-runs c =
+    then _ _ _ _ _ _ _ _ _ c.in_ok-name.ensures.runs
+    (then _ _ _ _ _ _ _ _ _ c.in_ok-width.ensures.runs
+    (then _ _ _ _ _ _ _ _ _ c.in_ok-expect.ensures.runs
     (seen _ _ _ _ _ _ _ refl
-    (then _ _ _ _ _ _ _ _ _ c.in_ok-side.ensures
+    (then _ _ _ _ _ _ _ _ _ c.in_ok-side.ensures.runs
     (seen _ _ _ _ _ _ _ refl
     (seen _ _ _ _ _ _ _ refl
-    (then _ _ _ _ _ _ _ _ _ c.in_ok-attributes_of.ensures
+    (then _ _ _ _ _ _ _ _ _ c.in_ok-attributes_of.ensures.runs
     (seen _ _ _ _ _ _ _ refl
-    (rw (← c.since-operands.ensures, ← c.since-attributes.ensures) c.claim_statement.ensures)))))))))
+    (rw (← c.since-operands.ensures, ← c.since-attributes.ensures) c.claim_statement.ensures.runs)))))))))

@@ -1,12 +1,12 @@
--- `reader::statements::statements_of` meets its contract: what is left to read behind each turn is what the rule reads, and each turn claims a row.
+-- `reader::statements::statements_of` meets its contract: what is left to read behind each turn is what the rule reads, what it leaves is as it was, and each turn claims a row.
 -- Assumes nothing.
-use Rattle.std.proofs.Common.{◌-◌}
+use Rattle.std.proofs.Common.{◌-◌, ◌≡◌}
 use Rattle.rules.specs.Reading as R
 use Rattle.reader.proofs.Loops.{SoFar}
 use Rattle.reader.proofs.statements.statements_of.Given as goal
 
 abbrev pub invariant-loop-p : goal.invariant-loop-p
-invariant-loop-p l = SoFar R.statements l.initial.p l.p
+invariant-loop-p l = SoFar R.statements l.initial.p l.p × (l.p.items.now ≡ l.initial.p.items.now)
 
 abbrev pub decreases-loop-p : goal.decreases-loop-p
 decreases-loop-p l = 65536 - l.p.counts.statements

@@ -1,7 +1,7 @@
 use mathlib.Core.Path.{◌∙◌}
 use borrow.Author.Tests.{eq-eqb, ne_eqb}
 use Rattle.rules.specs.Reading as R
-use Rattle.parser.proofs.Parser.instruction_at.Goals as goal
+use Rattle.parser.proofs.instruction_at.Goals as goal
 
 pub returns-then-t-ne-IDENT : goal.returns-then-t-ne-IDENT
 unfolding R.instruction_at
