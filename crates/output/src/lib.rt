@@ -14,7 +14,8 @@ pub fn least(a: usize, b: usize) -> usize
     a.min(b)
 }
 
-// Writes a word at the front of an output that has room for it, and answers the word's length.
+// Writes a word at the front of an output that has room for it, and answers the word's length. By a loop, as `copy_from_slice` calls `memmove`: the archive for C is to need
+// no function from outside but `memset` and `memcpy`.
 pub fn put(word: &[u8], out: &mut [u8]) -> usize
     ensures { Wrote word.now out.old out.new result }
 {
@@ -22,6 +23,8 @@ pub fn put(word: &[u8], out: &mut [u8]) -> usize
     if out.len() < n {
         return n;
     }
-    out[..n].copy_from_slice(word);
+    for i in 0..n {
+        out[i] = word[i];
+    }
     n
 }
