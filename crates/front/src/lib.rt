@@ -72,20 +72,22 @@ fn print_with(
 ) -> Result<u64, Refusal>
     ensures { Tells entry text.now output.old (print_answer result) output.new }
 {
-    let rows = read(entry, text, items, statements, operands, attributes)?;
-    peldarox::print(
-        text,
-        items,
-        statements,
-        operands,
-        attributes,
-        rows.items as u64,
-        rows.statements as u64,
-        rows.operands as u64,
-        rows.attributes as u64,
-        work,
-        output,
-    )
+    match read(entry, text, items, statements, operands, attributes) {
+        Ok(rows) => peldarox::print(
+            text,
+            items,
+            statements,
+            operands,
+            attributes,
+            rows.items as u64,
+            rows.statements as u64,
+            rows.operands as u64,
+            rows.attributes as u64,
+            work,
+            output,
+        ),
+        Err(refusal) => Err(refusal),
+    }
 }
 
 // The read of an entry point.

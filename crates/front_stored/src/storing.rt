@@ -63,17 +63,19 @@ fn store_with(
 ) -> Result<u64, Refusal>
     ensures { TellsFile entry text.now output.old (store_answer result) output.new }
 {
-    let rows = read(entry, text, items, statements, operands, attributes)?;
-    peldarox::store(
-        text,
-        items,
-        statements,
-        operands,
-        attributes,
-        rows.items as u64,
-        rows.statements as u64,
-        rows.operands as u64,
-        rows.attributes as u64,
-        output,
-    )
+    match read(entry, text, items, statements, operands, attributes) {
+        Ok(rows) => peldarox::store(
+            text,
+            items,
+            statements,
+            operands,
+            attributes,
+            rows.items as u64,
+            rows.statements as u64,
+            rows.operands as u64,
+            rows.attributes as u64,
+            output,
+        ),
+        Err(refusal) => Err(refusal),
+    }
 }

@@ -27,16 +27,27 @@ fn feed<R: Read>(from: &mut R, part: &mut [u8]) -> io::Result<Stream> {
     Err(io::ErrorKind::Other.into())
 }
 
-// Writes a report as a line.
+// Writes a report as a line, piece by piece: of each piece that cannot be written it is said.
 fn tell(out: &impl Print, err: &impl Print, report: LexReport) {
     let tokens = report.tokens;
-    let written = match report.refusal {
-        None => println!(out; "tokens {tokens}"),
-        Some(LexRefusal { number, place }) => {
-            println!(out; "refused {number} at {place} after {tokens} tokens")
-        }
+    let Some(LexRefusal { number, place }) = report.refusal else {
+        put(out, err, b"tokens ");
+        let _ = out.print(tokens);
+        put(out, err, b"\n");
+        return;
     };
-    if written.is_err() {
+    put(out, err, b"refused ");
+    let _ = out.print(number);
+    put(out, err, b" at ");
+    let _ = out.print(place);
+    put(out, err, b" after ");
+    let _ = out.print(tokens);
+    put(out, err, b" tokens\n");
+}
+
+// Writes to standard output.
+fn put(out: &impl Print, err: &impl Print, bytes: &[u8]) {
+    if out.write_all(bytes).is_err() {
         complain(err, "standard output cannot be written");
     }
 }
